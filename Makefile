@@ -20,7 +20,7 @@ PREFIX ?= /usr/local
 PROGRAM := crates/registry_cli/out/registry_cli
 UNITS ?= /etc/systemd/system
 PROGRAMS = $(shell find contrib -maxdepth 1 -type f -perm -u+x -printf '%f\n' | sort)
-# The page, and its version: a digest of its files. Browsers keep what has the version in its address, and ask for index.html again.
+# The page, and its version: a digest of its files. Browsers keep what has it in its address, and ask for index.html again.
 PAGE = $(DESTDIR)$(PREFIX)/share/usbreg/web
 VERSION = $(shell export LC_ALL=C; cd web && sha256sum * | sha256sum | cut -c 1-16)
 # What is installed names the folder into which it is installed, and the program there.

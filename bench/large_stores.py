@@ -9,7 +9,7 @@ import threading
 import time
 
 from lib.serving import command, connected, exchange, get, read_to_end, serving
-from lib.usbreg import content, copy, found, opened, put_rows
+from lib.usbreg import content, copy, found, kept_rows, opened, put_rows
 from order_cases import KEEPER, RUNS, SCALE, SITE
 
 HERE = os.path.dirname(os.path.abspath(__file__))
@@ -26,7 +26,7 @@ def with_requests(usbreg, room, count):
     form = f"amend-org\to1\tWorkshop\t{SITE}".encode()
     return put_rows(found(usbreg, f"{room}/requests.db"), (
         (PUT_ORG, [("o1", SITE, KEEPER)]),
-        ("INSERT INTO kept VALUES (?, ?, ?, 'amended organisation o1')", ((KEEPER, f"a{it:08}", form) for it in range(count))),
+        *kept_rows((KEEPER, f"a{it:08}", form, "amended organisation o1") for it in range(count)),
     ))
 
 

@@ -5,9 +5,10 @@ such a file: a store with one more table, which is foreign, so that nothing of i
 
 SQLite makes the store on tmpfs (/dev/shm), in memory: 65,535 entries and 1,000,000 petitions of 1,000 organisations,
 once without the kept replies of these requests, 2,001,000, and once with them. For comparison SQLite itself copies and
-empties the tables, by the same statements in one transaction. Each first opening is of a new copy; the best of three is
+empties the tables, by the same statements in one transaction, and Python computes a digest for each kept request. Each first opening is of a new copy; the best of three is
 printed. Needs cc and the program that `make` builds, or the one whose path is given or is in USBREG."""
 
+import hashlib
 import os
 import re
 import shutil
@@ -57,7 +58,10 @@ DELETE FROM spans;
 DELETE FROM entries;
 DELETE FROM petitions;
 INSERT INTO vendors VALUES (4617, 'Shared products');
-UPDATE meta SET version = 3;
+CREATE TABLE digests4 (id INTEGER PRIMARY KEY, time TEXT, digest TEXT NOT NULL) STRICT;
+CREATE TABLE reasons4 (petition INTEGER PRIMARY KEY, reason TEXT NOT NULL) STRICT;
+INSERT INTO digests4 VALUES (0, NULL, printf('%064d', 0));
+UPDATE meta SET version = 4;
 """
 
 
@@ -79,10 +83,20 @@ def measured(peak, words, fault=""):
     return seconds, int(most), printed
 
 
+def digests(connection):
+    """Yields a digest for each kept request, of the one before it and the row: as much as is computed of a record."""
+    digest = "0" * 64
+    for number, row in enumerate(connection.execute("SELECT caller, request_key, CAST(request AS TEXT), reply FROM kept ORDER BY rowid"), 1):
+        digest = hashlib.sha256("\t".join((digest, *row)).encode()).hexdigest()
+        yield number, digest
+
+
 def by_sqlite(store):
     with opened(store) as connection:
         began = time.perf_counter()
-        connection.executescript("BEGIN;" + NEWEST + "COMMIT;")
+        connection.executescript("BEGIN;" + NEWEST)
+        connection.executemany("INSERT INTO digests4 VALUES (?, NULL, ?)", digests(connection))
+        connection.commit()
     return time.perf_counter() - began
 
 

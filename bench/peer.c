@@ -3,7 +3,7 @@
 // Usage: peer STORE FILE TABLES [PAGE_SIZE]: acts on the request lines of a file over a new store, or over one that is
 // there (:memory: for memory). It makes the checks of enrol, ask, grant and decline by prepared SQL statements,
 // keeps counts and the least free number in memory, commits each accepted request, and writes each reply before
-// the next request. The lines are those of registry.py: their texts have no escapes.
+// the next request. It keeps no times and no digests. The lines are those of registry.py: their texts have no escapes.
 #include <sqlite3.h>
 #include <stdio.h>
 #include <stdlib.h>

@@ -3,7 +3,7 @@
 
 Usage: peer.py STORE FILE: acts on the request lines of a file over a new or an existing store (:memory: for memory). It
 makes the checks of enrol, ask, grant and decline in SQL, keeps counts and the least free number in memory, commits each
-accepted request, and writes each reply before it acts on the next request."""
+accepted request, and writes each reply before it acts on the next request. It keeps no times and no digests."""
 
 import json
 import os

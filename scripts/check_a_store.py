@@ -4,7 +4,7 @@
 The stores of all cases in `cases/`, and one of random requests, are sound, with the counts of a plain history in Python
 (`plain_history.py`), and their files keep their bytes. Each statement of the list below makes a store that opens, and that
 `check` must call unsound by the line beside it: another title, reply, owner or state, a row that is gone or that was added, in
-each table. What is added to the founding is not noticed. A page of zeros, a file that ends early, one of another program and an
+each table. What is added to the founding has another digest. Another reason is not noticed, nor is a digest before the last. A page of zeros, a file that ends early, one of another program and an
 empty one are no registries, or have a fault. While a server has the store open, `check` has a fault as each command has; after it the check is as before. A store
 of an older schema is brought to the newest, and is sound.
 
@@ -19,6 +19,7 @@ import sys
 import time
 
 from lib.beside_plain import Room
+from lib.older_stores import COUNTS
 from lib.requests import Chance, all_cases, requests_in
 from lib.serving import serving
 from lib.usbreg import (
@@ -52,9 +53,13 @@ UNSOUND = (
     ("DELETE FROM kept WHERE rowid = (SELECT max(rowid) FROM kept)", None),
     ("UPDATE curators SET name = 'dan'", None),
     ("UPDATE meta SET name = 'Other products'", "vendor 1209"),
+    ("INSERT INTO curators VALUES ('dan')", "digest of the record"),
+    ("INSERT INTO licences VALUES ('Other')", "digest of the record"),
+    ("UPDATE digests4 SET digest = printf('%064d', 7) WHERE id = (SELECT max(id) FROM digests4)", "digest of the record"),
+    ("UPDATE digests4 SET time = '2026-11-28T20:34:13Z' WHERE id = 1", "digest of the record"),
 )
-# What was added to the founding, of which there is no other word: it is as good as the one before.
-UNNOTICED = ("INSERT INTO curators VALUES ('dan')", "INSERT INTO licences VALUES ('Other')")
+# What is compared with nothing: a digest before the last, a reason.
+UNNOTICED = ("UPDATE digests4 SET digest = printf('%064d', 7) WHERE id < (SELECT max(id) FROM digests4)", "INSERT INTO reasons4 VALUES (3, 'Spam')")
 
 
 def files(store):
@@ -123,8 +128,8 @@ def unsound_stores(usbreg, made, store, names):
         same(f"{statement}, with --verbose", checked(usbreg, changed, "--verbose"), (1, b"", errors + cause.encode()))
 
 
-def other_foundings(usbreg, made, store, counts):
-    """Checks that a founding that was added to is taken as it is."""
+def unnoticed(usbreg, made, store, counts):
+    """Checks that what is compared with nothing is taken as it is."""
     for statement in UNNOTICED:
         is_sound(usbreg, statement, put_rows(copy(store, f"{made}/changed.db"), [(statement, [()])]), *counts)
 
@@ -174,7 +179,7 @@ def served_store(usbreg, store, counts):
 
 def older_stores(usbreg, made):
     """Checks stores of the older schemas."""
-    for version in (1, 2):
+    for version in COUNTS:
         store = older(f"{made}/older.db", version)
         status, output, errors = run([usbreg, "check", store])
         if status or errors or not output.startswith(b"sound: "):
@@ -213,7 +218,7 @@ def main():
         sound_stores(usbreg, room)
         store, names, counts = plain(usbreg, room, made)
         unsound_stores(usbreg, made, store, names)
-        other_foundings(usbreg, made, store, counts)
+        unnoticed(usbreg, made, store, counts)
         faulty_files(usbreg, made, store)
         served_store(usbreg, store, counts)
         older_stores(usbreg, made)

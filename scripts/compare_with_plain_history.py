@@ -1,7 +1,8 @@
 #!/usr/bin/env python3
 """Compares `usbreg` with a plain history in Python (`plain_history.py`): over the cases in `cases/`, histories at the
-edges of limits, and random requests, the same ones in each run. Replies, all tables and the exported list must be the
-same, and another reader must find the held numbers and their titles in the list.
+edges of limits, and random requests, the same ones in each run, some of them with times and reasons. Replies, all tables,
+the digests of the record among them, and the exported list must be the same, and another reader must find the held numbers
+and their titles in the list.
 
 Usage: scripts/compare_with_plain_history.py [PROGRAM], by default the one that `make` builds. The exit status is 0 if all
 agree."""
@@ -55,14 +56,26 @@ def made_up(room):
     registry, chance, sent, replies = room.registry("ann", "0007"), Chance(13), [], []
     while len(sent) < ORDERS_IN_CHANCE:
         again = sent and chance.dice.randrange(4) == 0
-        sent.append(chance.one_of(*sent) if again else chance.request())
+        sent.append(chance.again(sent) if again else chance.request())
     for first in range(0, len(sent), 250):
         replies += registry.send(f"made-up requests from {first}", sent[first : first + 250])
     refused = {json.loads(reply).get("refused") for reply in replies}
     orders = {deed["order"] for deed in registry.history.deeds}
-    missing = set(REFUSALS) - RARE - refused, set(plain_history.FIELDS) - orders
+    missing = set(REFUSALS) - RARE - refused, set(plain_history.FIELDS) - orders, lacking(registry.history, sent)
     if any(missing):
-        sys.exit(f"made-up requests never met these refusals and orders: {missing}")
+        sys.exit(f"made-up requests never met these refusals, orders and others: {missing}")
+
+
+def lacking(history, sent):
+    """Returns what is optional in requests and never came in these."""
+    kept = {(it["caller"], it["key"]): it for it in history.deeds}
+    repeats = [(it, kept[it["caller"], it["key"]]) for it in sent if (it["caller"], it["key"]) in kept]
+    others = [deed for it, deed in repeats if history.canonical(it) == deed["form"] and it.get("at") != deed.get("at")]
+    came = {
+        "a time": any(it.get("at") for it in history.deeds), "no time": any(not it.get("at") for it in history.deeds),
+        "a repeat at another time": others, "a reason": history.tables()["reasons4"],
+    }
+    return {name for name, met in came.items() if not met}
 
 
 def main():

@@ -3,7 +3,7 @@
 
 A kill leaves to the disk all that was written; a power cut does not. A preloaded library records what the program writes
 and syncs, and in which order (`recording.py`), for a founding, requests of a file, an import, orders over HTTP, and the
-opening of stores of schemas 1 and 2. docs/contracts.md says below "Only tested" which states of the files come from this
+opening of stores of schemas 1, 2 and 3. docs/contracts.md says below "Only tested" which states of the files come from this
 record, what each must show, and what the control is. Where a founding was cut a registry is there whole, or can be founded.
 An older store opens as the same history.
 
@@ -17,7 +17,7 @@ import re
 import sqlite3
 import sys
 
-from lib.older_stores import in_order, make, rows_of
+from lib.older_stores import COUNTS, in_order, make, rows_of
 from lib.plain_history import History, line
 from lib.recording import FOLDER, Step, recorded, recording, states, steps_in, told
 from lib.refusing import each
@@ -170,7 +170,7 @@ class Migrated(Requests):
         self.census = done(self.words(store, 0))
 
     def begin(self, store):
-        make(store, self.version, self.tables)
+        make(store, self.version, self.tables | {"kept": self.history.kept()})
 
     def words(self, store, answered):
         return [self.usbreg, "report", store, "census"]
@@ -258,7 +258,7 @@ def runs(usbreg, room):
     yield Requests(usbreg, room, "apply", orders)
     yield Imported(usbreg, room, "import", imported, [enrol("acme"), ask("k1", number="0011")])
     yield Served(usbreg, room, "serve", [enrol("acme"), ask("k1"), ask("k2", number="0011"), request("cora", "g1", "grant", petition=2)])
-    for version in (1, 2):
+    for version in COUNTS:
         yield Migrated(usbreg, room, f"schema{version}", version, older)
 
 

@@ -6,7 +6,7 @@ changed in turn, or random bits are, each in a copy of its own. `usbreg export` 
 with status 1, and leave the file as it was. In the log, which is empty, the engine renews the header.
 
 With --without-sums the store is one with pages of 4,096 bytes and without sums, as older programs made them. Then the
-script counts how many damaged copies are refused, how many show the same list and reports, and how many show others.
+script counts how many damaged copies are refused, how many show the same list, reports and head, and how many show others.
 
 Usage: scripts/damage_a_store.py [--bits COUNT] [--without-sums] [PROGRAM], by default each byte for the program that
 `make` builds. The exit status is 0 if every opening is refused, and with --without-sums always."""
@@ -36,7 +36,7 @@ def shown(usbreg, store):
     exported = run([usbreg, "export", store])
     if exported[0]:
         return [exported]
-    return [exported, *(run([usbreg, "report", store, it]) for it in REPORTS)]
+    return [exported, *(run([usbreg, "report", store, it]) for it in REPORTS), run([usbreg, "head", store])]
 
 
 def damage(usbreg, store, changed, room, wanted):
@@ -76,7 +76,7 @@ def main():
     what = f"{asked.bits} random bits" if asked.bits else "each byte"
     print(
         f"{what} changed in a store of {length:,} bytes, pages of {size:,} bytes with {reserved} reserved (seed {seed}): {counts['Refused']} refused, "
-        f"{counts['Same']} with the same list and reports, {counts['Others']} with others"
+        f"{counts['Same']} with the same list, reports and head, {counts['Others']} with others"
     )
     if counts["Written"]:
         sys.exit(f"{counts['Written']} damaged stores were written to")

@@ -6,8 +6,8 @@ of request lines. Then SQLite opens the file: the texts of its tables must be th
 each statement of examples/orders.rows must return the lines below it there, as `sqlite3 -quote` prints them. Each table
 has a statement, so the store has these rows and no others.
 
-Two copies of the store must open with the same list, reports and record, and give its first request the same reply: one
-that SQLite made from a dump, which has no sums, and one after a VACUUM, once its pages have their sums again; before
+Two copies of the store must open with the same list, reports, record and head, and give its first request the same reply:
+one that SQLite made from a dump, which has no sums, and one after a VACUUM, once its pages have their sums again; before
 that it must be refused. One whose tables were made in another order must be foreign.
 
 Usage: scripts/look_into_a_store.py [PROGRAM [ROWS]], by default the program that `make` builds, and
@@ -67,11 +67,11 @@ def rows_of(store):
 
 
 def shown(usbreg, store, first):
-    """Returns what the program shows of a store: its list, each report, its record, a part of that, and the reply to a
-    request that it keeps."""
+    """Returns what the program shows of a store: its list, each report, its record, a part of that, its head, and the reply
+    to a request that it keeps."""
     reports = [done([usbreg, "report", store, name]) for name in REPORTS]
     record = [done([usbreg, "history", store, *part]) for part in ([], ["--after", "3"])]
-    return [done([usbreg, "export", store]), *reports, *record, apply(usbreg, store, first)]
+    return [done([usbreg, "export", store]), *reports, *record, done([usbreg, "head", store]), apply(usbreg, store, first)]
 
 
 def main():

@@ -1,7 +1,7 @@
 #!/usr/bin/env python3
 """Opens stores that are nearly registries with each command of `usbreg`, and compares what it says and leaves of them.
 
-SQLite makes the stores, in schemas 1, 2 and 3, with and without checksums: the registry of examples/one_vendor.requests
+SQLite makes the stores, in schemas 1 to 4, with and without checksums: the registry of examples/one_vendor.requests
 with one change. Some have another table, column, view or index, others a row that no history has. Each command that opens
 a registry runs over a copy of its own. The results must be those in cases/nearly_registries.txt, whose head says what its
 words mean. The script ends at once at a result that no word there stands for, such as a crash.
@@ -30,6 +30,7 @@ from lib.usbreg import EXAMPLES, FOUNDING, TOP, content, copy, done, folder, ope
 TABLE = f"{TOP}/cases/nearly_registries.txt"
 FAULTS = {f"fault: {it}\n".encode(): it for it in ("file", "foreign", "memory", "spent", "store", "taken")}
 LINK = "https://acme.example/"
+SCHEMAS = (*COUNTS, 4)
 # A log that holds no commit has at most its header and the beginning of a frame.
 EMPTY_LOG = 41
 # The commands over stores without checksums.
@@ -38,9 +39,9 @@ HEAD = """\
 What the commands do over stores that are nearly registries. scripts/nearly_registries.py makes the stores, compares the
 results with this table, and writes it with --write.
 
-Below a change to a sound store is its result in schemas 1, 2 and 3, each with and without checksums: the same, unless it
-says so. The commands are export, report (petitions and numbers), history, apply (an ask, a grant and an enrol), import,
-replay (the record of the sound store), serve (one GET /history/0) and found.
+Below a change to a sound store is its result in schemas 1, 2, 3 and 4, each with and without checksums: the same, unless it
+says so. The commands are export, report (petitions and numbers), history, head, apply (an ask, a grant and an enrol), import,
+replay (the record of the sound store), serve (GET /history/0 and then GET /petitions/3) and found.
 
 opens        what export does with the sound store; so do the others, but those that are named after it
 foreign      export prints `fault: foreign`, with status 1; so do all others but found and those that are named after it
@@ -60,9 +61,8 @@ def base(version):
     history = History(FOUNDING)
     for request in requests_in(f"{EXAMPLES}/one_vendor.requests"):
         history.answer(request)
-    kept = [(it["caller"], it["key"], it["form"].encode(), it["reply"]) for it in history.deeds]
-    tables = history.tables() | {"kept": kept}
-    rows = in_schema(version, tables) if version < 3 else tables
+    tables = history.tables() | {"kept": history.kept()}
+    rows = in_schema(version, tables) if version in COUNTS else tables
     texts = [it[1:-1].replace("''", "'") for it in documented_texts()][: COUNTS.get(version)]
     return Plan(version, {it.split(" ")[2]: it for it in texts}, {name: [list(row) for row in rows[name]] for name in rows})
 
@@ -80,11 +80,16 @@ class Inputs:
 
 
 def served(usbreg, store):
-    """Returns the status, the response and the errors of one connection, or of an end before it."""
-    with serving(usbreg, store, 1) as server:
-        response = exchange(server.port, get("/history/0")) if server.is_up() else b""
+    """Returns the status, the responses and the errors of two connections, or of an end before them."""
+    with serving(usbreg, store, 2) as server:
+        responses = b""
+        for path in ("/history/0", "/petitions/3"):
+            # A fault of the first ends it.
+            if server.is_up():
+                with contextlib.suppress(ConnectionError):
+                    responses += exchange(server.port, get(path))
         status, _, errors = server.ended()
-    return status, response, errors
+    return status, responses, errors
 
 
 def reported(usbreg, store):
@@ -105,6 +110,7 @@ def commands(usbreg, inputs):
         "export": lambda store: run([usbreg, "export", store]),
         "report": lambda store: reported(usbreg, store),
         "history": lambda store: run([usbreg, "history", store]),
+        "head": lambda store: run([usbreg, "head", store]),
         "apply": lambda store: run([usbreg, "apply", store, inputs.lines]),
         "import": lambda store: run([usbreg, "import", store, inputs.listed, *imported]),
         "replay": lambda store: run([usbreg, "replay", store, inputs.record]),
@@ -141,12 +147,12 @@ def rows_of(store):
             columns = [it[0] for it in shown.description]
             for row in shown:
                 rows.update(moved(name, dict(zip(columns, row, strict=True))))
-    return 3 if "petitions3" in names else 2 if "spans" in names else 1, rows
+    return 4 if "reasons4" in names else 3 if "petitions3" in names else 2 if "spans" in names else 1, rows
 
 
 def moved(name, row):
     """Yields a row as a table and its values, by the names of the newest schema and without vendor."""
-    table = name.removesuffix("3")
+    table = name.rstrip("34")
     if name == "meta":
         row = {it: row[it] for it in row if it != "version"}
     if table == "spans" and isinstance(row.get("hi"), int):
@@ -248,7 +254,7 @@ def lines_of(results):
     """Returns the lines of the table: for each kind of change, the items with the same results, and these."""
     kinds = {}
     for (kind, item), texts in results.items():
-        cells = tuple(texts.get(version, "-") for version in (1, 2, 3))
+        cells = tuple(texts.get(version, "-") for version in SCHEMAS)
         kinds.setdefault(kind, {}).setdefault(cells, []).append(item)
     lines = []
     for kind, groups in kinds.items():
@@ -256,8 +262,8 @@ def lines_of(results):
         for cells, items in groups.items():
             lines += [f"  {it}" for it in items] if any(" " in it and not it.startswith("older ") for it in items) else [f"  {', '.join(items)}"]
             for cell in dict.fromkeys(cells):
-                numbers = [str(version) for version in (1, 2, 3) if cells[version - 1] == cell]
-                lines.append(f"      {' '.join(numbers):<5}  {cell}")
+                numbers = [str(version) for version in SCHEMAS if cells[version - 1] == cell]
+                lines.append(f"      {' '.join(numbers):<7}  {cell}")
     return lines
 
 
@@ -268,8 +274,8 @@ def main():
     asked = parser.parse_args()
     usbreg = program(asked.program)
     with folder() as made:
-        plans = {version: base(version) for version in (1, 2, 3)}
-        runs = commands(usbreg, Inputs(usbreg, made, plans[3].make(f"{made}/first.db", True)))
+        plans = {version: base(version) for version in SCHEMAS}
+        runs = commands(usbreg, Inputs(usbreg, made, plans[SCHEMAS[-1]].make(f"{made}/first.db", True)))
         sounds = {(version, sums): Sound(runs, plan, sums, made) for version, plan in plans.items() for sums in (True, False)}
         tried = [(kind, item, plan) for version in plans for kind, item, plan in nearly(plans[version])]
         texts = each(tried, made, lambda near, room: result(runs, near[2], sounds, room))

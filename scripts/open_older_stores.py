@@ -1,14 +1,14 @@
 #!/usr/bin/env python3
 """Opens stores of the older schemas with `usbreg`, and compares them with the same history founded today.
 
-SQLite makes the stores: from examples/schema1.sql and examples/schema2.sql, whose texts are those of docs/schema.md and
+SQLite makes the stores: from examples/schema1.sql, schema2.sql and schema3.sql there, whose texts are those of docs/schema.md and
 whose rows are those of a plain history after examples/one_vendor.requests; then from the rows of the cases in `cases/`
 and of random requests, except for those that name a vendor. Whichever command opens such a store first, it prints what it
-prints for a registry that was founded today by the same requests: the list, the reports, and the record in its order. The
-rows of all tables are the same. Each accepted request gets its first reply again, and later requests do the same to both.
+prints for a registry that was founded today by the same requests: the list, the reports, the record in its order, and its
+head. The rows of all tables are the same. Each accepted request gets its first reply again, and later requests do the same to both.
 
 The program is killed at random moments while it opens a store with many rows. The file that is left is sound and holds
-the history in the older schema, in the one between, or in the newest; opened again it is as without a stop.
+the history in the older schema, in one between, or in the newest; opened again it is as without a stop.
 
 A store whose version is not that of its tables, or with other tables, is foreign: its file keeps its bytes, and so does a
 store of the newest schema when it is opened.
@@ -50,7 +50,7 @@ def same_rows(what, there, wanted):
 
 def views(usbreg, store):
     """Returns the commands that show a store."""
-    return [[usbreg, "export", store], [usbreg, "history", store], *([usbreg, "report", store, it] for it in REPORTS)]
+    return [*([usbreg, it, store] for it in ("export", "history", "head")), *([usbreg, "report", store, it] for it in REPORTS)]
 
 
 def keeps_bytes(what, store, ran, wanted):
@@ -98,7 +98,7 @@ class Stores:
         same_rows(f"{what} in schema {version}, and more", rows_of(older), rows_of(today.store))
         shown = [[done(words) for words in views(self.program, it)] for it in (older, today.store)]
         if shown[0] != shown[1]:
-            sys.exit(f"{what} in schema {version} shows another list, other reports or another record than founded today")
+            sys.exit(f"{what} in schema {version} shows another list, other reports, another record or another head than founded today")
         self.opened += 1
 
 
@@ -135,7 +135,7 @@ def examples(stores):
     repeats = write_requests(f"{stores.folder}/repeats.jsonl", [it for it, _ in lines])
     commands = [([stores.program, "apply", today.store, repeats], "".join(f"{it}\n" for _, it in lines).encode())]
     # The rows of the texts are in the order of the requests, so the record is the same too.
-    commands += [(it, done(it)) for it in [*views(stores.program, today.store), [stores.program, "history", today.store]]]
+    commands += [(it, done(it)) for it in views(stores.program, today.store)]
     for version, count in COUNTS.items():
         what = f"examples/schema{version}.sql"
         store = older(f"{stores.folder}/older{version}.db", version)
@@ -151,21 +151,23 @@ def examples(stores):
         stores.opens_as(what, version, store, today, accepted, later_requests())
 
 
+def is_known(asked):
+    """Returns whether the older schemas have what a request says."""
+    return asked["order"] != "add-licence" and not any(asked.get(it) for it in ("vendor", "at")) and not (asked["order"] == "decline" and asked.get("reason"))
+
+
 class OneVendor(Chance):
     """Random requests that the older schemas know."""
 
-    def fields(self, order):
-        return {name: value for name, value in super().fields(order).items() if name != "vendor"}
-
     def request(self):
-        while (made := super().request())["order"] in ("add-vendor", "add-licence"):
+        while not is_known(made := super().request()):
             pass
         return made
 
 
 def histories(stores):
     """Returns the cases that the older schemas know, and random requests."""
-    known = [it for it in all_cases() if not any("vendor" in asked or asked["order"] == "add-licence" for asked in it[1])]
+    known = [it for it in all_cases() if all(map(is_known, it[1]))]
     all_histories = [(name, requests, {}) for name, requests, _ in known]
     for seed in (1, 2, 3):
         chance = OneVendor(seed)
@@ -183,7 +185,7 @@ def histories(stores):
 
 def stops_from(version, stores, today, stops):
     """Kills the opening of a store with many rows the given number of times. Returns how often each schema was left."""
-    wanted = {3: rows_of(today)} | {it: in_order(in_schema(it, rows_of(today))) for it in range(version, 3)}
+    wanted = {4: rows_of(today)} | {it: in_order(in_schema(it, rows_of(today))) for it in range(version, 4)}
     whole = make(f"{stores.folder}/whole.db", version, rows_as_kept(today))
     store = copy(whole, f"{stores.folder}/stopped.db")
     words = [stores.program, "report", store, "census"]
@@ -197,10 +199,10 @@ def stops_from(version, stores, today, stops):
         again = not killed(words, random.uniform(0, 1.1 * seconds))
         there = rows_of(copy(store, f"{stores.folder}/looked.db"))
         reached = there["meta"][0][1]
-        same_rows(f"a stop from schema {version} left schema {reached}", there, wanted.get(reached, wanted[3]))
+        same_rows(f"a stop from schema {version} left schema {reached}", there, wanted.get(reached, wanted[4]))
         if not again:
             left[reached] += 1
-            again = reached == 3
+            again = reached == 4
             if again and done(words) != census:
                 sys.exit("what a stop left has another census")
     return left
@@ -217,8 +219,8 @@ def stops(stores, count):
 
 def foreign_changes(version):
     """Returns changes by another program that make it no store of this schema."""
-    yield from (f"UPDATE meta SET version = {it}" for it in (-1, 0, 1, 2, 3, 4, 259) if it != version)
-    last = {1: "kept", 2: "spans", 3: "petitions3"}[version]
+    yield from (f"UPDATE meta SET version = {it}" for it in (-1, 0, 1, 2, 3, 4, 5, 259) if it != version)
+    last = {1: "kept", 2: "spans", 3: "petitions3", 4: "reasons4"}[version]
     yield from (f"ALTER TABLE {it} RENAME TO other" for it in ("meta", "orgs", last))
     yield f"DROP TABLE {last}"
     yield "CREATE TABLE other (title TEXT NOT NULL) STRICT"
@@ -229,10 +231,10 @@ def foreign_stores(stores):
     """Checks that any command reports a store of no schema, and writes nothing to it."""
     lines = write(f"{stores.folder}/lines.jsonl", content(f"{EXAMPLES}/first.jsonl").decode())
     count = 0
-    for version in (1, 2, 3):
+    for version in (1, 2, 3, 4):
         store = f"{stores.folder}/foreign.db"
         for change in foreign_changes(version):
-            if version == 3:
+            if version == 4:
                 found(stores.program, store)
             else:
                 older(store, version)
@@ -261,7 +263,7 @@ def newest(stores):
             keeps_bytes("the newest schema", store, words, (0, done(words), b""))
         shown.append((replies, rows_of(store), [done(words) for words in views(stores.program, store)]))
     if shown[0] != shown[1]:
-        sys.exit("a store without sums shows other rows, replies, lists, reports or records than a new one")
+        sys.exit("a store without sums shows other rows, replies, lists, reports, records or heads than a new one")
 
 
 def main():
@@ -276,7 +278,7 @@ def main():
         refused = foreign_stores(stores)
         newest(stores)
         for version, left in stops(stores, count).items():
-            told = ", ".join(f"{left[it]} left schema {it}" for it in range(version, 4))
+            told = ", ".join(f"{left[it]} left schema {it}" for it in sorted(left))
             print(f"{left.total()} stops of opening a store of schema {version}: {told}; each time the same history, and opened again as without a stop (seed {seed})")
     print(f"{stores.opened} openings of older stores, the examples and {several} histories, are the same histories founded today; {refused} stores are foreign and keep their bytes")
 

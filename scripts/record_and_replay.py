@@ -3,15 +3,19 @@
 
 The record must be the founding and the accepted requests of a plain history in Python (`plain_history.py`), line by line:
 for each kind of order, the cases in `cases/`, and random requests. Replayed into a new store it must give the same tables
-and the same record, also if it is replayed line by line, from standard input, after random kills, or a second time. A
-record that was changed is refused at its line, with status 2, and the lines before that one stand; memory does not grow
-with a line that is too long. Stores of the older schemas have their whole record too.
+and the same record, also if it is replayed line by line, from standard input, after random kills, or a second time. Ten
+thousand random requests, some with times and reasons, make the same tables and the same record by `apply`, by `replay`, and
+as messages to `usbreg serve`, and `GET /head` names its digest. Lines that carry their digests are compared with it: the first
+one of another record is named. A record that was changed is refused at its line, with
+status 2, and the lines before that one stand; memory does not grow with a line that is too long. Stores of the older schemas
+have their whole record too.
 
 The commands for the record in docs/backup.md run as they are written, but for folders, addresses, `apt-get`, `systemctl` and
-`runuser`, while orders come: the copy and the registry on the second machine end equal to the first.
+`runuser`, while orders come: the copy and the registry on the second machine end equal to the first, the loop of a page
+computes the digest that the registry gives, and the signed head of the day is that of the record, and of no other one.
 
 Usage: scripts/record_and_replay.py [PROGRAM], by default the one that `make` builds. The commands for the record are skipped
-if curl or Git is not installed. The exit status is 0 if all of this holds."""
+if curl, Git or ssh-keygen is not installed. The exit status is 0 if all of this holds."""
 
 import json
 import os
@@ -21,10 +25,11 @@ import sys
 import time
 
 from lib.beside_plain import Room
-from lib.machine import Machine, Orders
-from lib.pages import block
-from lib.plain_history import FIELDS, History, items
+from lib.followed import follows
+from lib.older_stores import COUNTS
+from lib.plain_history import FIELDS, History, line as compact
 from lib.requests import Chance, all_cases, enrol, request, requests_in
+from lib.serving import command, exchange, get, serving
 from lib.stopping import killed
 from lib.usbreg import (
     EXAMPLES, FOUNDING, content, done, folder, found, older, opened, program, remove, rounds, run, tables, write,
@@ -37,33 +42,7 @@ MOST = 4_194_304
 # The kibibytes of address space in which a line of two gigabytes has to be refused.
 ROOM_FOR_A_LINE = 65_536
 STOPS = 20
-# How often the copy and the second machine follow while orders come, the requests that come before, and the seconds between
-# two of the others.
-FOLLOWED, BEFORE, APART = 5, 1_100, 0.002
 BAD_JSON = '{"name":"BadJson","refused":27}'
-
-
-def compact(value):
-    return json.dumps(value, sort_keys=True, separators=(",", ":"), ensure_ascii=False)
-
-
-def founding_line(history):
-    founding = history.founding
-    spans = ["-".join([it.split("-")[0], it.split("-")[-1]]) for it in founding["fixed"]]
-    sets = {"curators": sorted(founding["curators"]), "licences": sorted(founding["licences"]), "fixed": sorted(spans)}
-    return compact({"vendor": founding["vendor"].lower(), "name": founding["name"], **sets})
-
-
-def accepted_line(deed):
-    """Returns the line of an accepted request. A list becomes its items, and a device without a title has null."""
-    line = {it: deed[it] for it in ("caller", "key", "order", *FIELDS[deed["order"]]) if deed.get(it) is not None}
-    if "list" in line:
-        line["items"] = [[f"{pid:04x}", title or None] for pid, title in items(line.pop("list"))]
-    return compact(line | {"done": deed["reply"]})
-
-
-def record_of(history):
-    return [founding_line(history), *map(accepted_line, history.deeds)]
 
 
 def same(what, there, wanted):
@@ -123,7 +102,7 @@ def each_kind(room, records):
     for name, requests, _ in all_cases():
         registry = room.registry()
         registry.send(name, requests)
-        records.check(name, registry.store, record_of(registry.history))
+        records.check(name, registry.store, registry.history.record())
         kinds |= {it["order"] for it in registry.history.deeds}
     same("the kinds of orders", kinds, set(FIELDS))
 
@@ -133,8 +112,28 @@ def made_up(room, records):
     registry, chance, sent = room.registry("ann", "0007", ("Zlib", "MIT", "Apache-2.0")), Chance(54), []
     while len(sent) < ORDERS_IN_CHANCE:
         sent.append(chance.request())
-    registry.send("made-up requests", sent)
-    records.check("made-up requests", registry.store, record_of(registry.history))
+    replies = registry.send("made-up requests", sent)
+    records.check("made-up requests", registry.store, registry.history.record())
+    store = found(records.program, records.path("db"), f"{room.folder}/{room.count}.toml")
+    over_http(records, store, registry, zip(sent, replies, strict=True))
+
+
+def over_http(records, store, registry, answered):
+    """Sends the requests of a registry as messages to a new one: its replies, its tables and its record are the same."""
+    with serving(records.program, store).up() as server:
+
+        def asked(path):
+            return exchange(server.port, get(path)).partition(b"\r\n\r\n")[2]
+
+        for it, reply in answered:
+            same(f"{it} over HTTP", exchange(server.port, command(it)).partition(b"\r\n\r\n")[2], f"{reply}\n".encode())
+        lines, page = lines_in(asked("/history/founding")), [""]
+        while page:
+            page = lines_in(asked(f"/history/{len(lines) - 1}"))
+            lines += page
+        same("the record over HTTP", lines, registry.history.record())
+        same("the head over HTTP", asked("/head"), f"{compact(registry.history.head())}\n".encode())
+    same("the tables of the requests that came over HTTP", rows(store), rows(registry.store))
 
 
 def small(room):
@@ -151,7 +150,7 @@ def small(room):
         request("bob", "r", "enrol", org="coil", title="U+2028: \u2028", site="https://c.example/"),
     ]
     registry.send("small", requests)
-    return registry, record_of(registry.history)
+    return registry, registry.history.record()
 
 
 def changed(room, records):
@@ -217,6 +216,34 @@ def changed(room, records):
     same("a store of no record", os.path.exists(f"{records.folder}/none.db"), False)
 
 
+def with_digests(room, records):
+    """Replays lines with digests. The first one of another record is named, and has taken effect; so a second replay goes on."""
+    registry, record = small(room)
+    digests = [digest for _, _, digest in registry.history.digests()]
+
+    def told(line, digest):
+        return compact(json.loads(line) | {"digest": digest})
+
+    lines, copy = [record[0], *map(told, record[1:], digests[1:])], records.path("db")
+    for _ in range(2):
+        records.replay(copy, lines)
+        same("lines with digests: the record of the copy", records.history(copy), record)
+    for bad in ("", digests[3][:-1], f"{digests[3]}0", digests[3].upper(), 7):
+        refused, copy = compact({"detail": "digest", "name": "BadField", "refused": 28}), records.path("db")
+        records.replay(copy, [*lines[:3], told(record[3], bad), *lines[4:]], 2, f"line 4: {refused}\n")
+        same(f"the digest {bad}: the record of the copy", records.history(copy), record[:3])
+    copy = records.path("db")
+    for status, said, left in ((2, "line 4: another record\n", record[:4]), (0, "", record)):
+        records.replay(copy, [*lines[:3], told(record[3], digests[4]), *lines[4:]], status, said)
+        same("a digest of another line: the record of the copy", records.history(copy), left)
+    # a restored registry that took an order of its own
+    own = compact({"caller": "bob", "done": "enrolled own", "key": "own", "order": "enrol", "org": "own", "site": "https://own.example/", "title": "Own"})
+    copy = records.path("db")
+    records.replay(copy, [*record[:3], own])
+    records.replay(copy, lines, 2, "line 4: another record\n")
+    same("another record", records.history(copy), [*record[:3], own, record[3]])
+
+
 def in_pieces(room, records):
     """Follows a registry by what is new in its record, through standard input; and replays one line at a time."""
     registry, record = small(room)
@@ -271,84 +298,25 @@ def stopped(records, seed):
 
 
 def older_stores(records):
-    """Prints and replays the records of stores of schemas 1 and 2, whose history is that of an example."""
+    """Prints and replays the records of stores of the older schemas, whose history is that of an example."""
     history = History(FOUNDING)
     for asked in requests_in(f"{EXAMPLES}/one_vendor.requests"):
         history.answer(asked)
-    for version in (1, 2):
+    for version in COUNTS:
         store = older(records.path("db"), version)
-        records.check(f"schema {version}", store, record_of(history))
+        records.check(f"schema {version}", store, history.record())
         remove(store)
-
-
-def fork(org):
-    """Returns orders of an organisation after which a petition of another one has another number."""
-    link = "https://fork.example/"
-    return [enrol(org), request("ann", f"ask-{org}", "ask", org=org, title="Lamp", licence="MIT", site=link, source=link)]
-
-
-def follows(usbreg, made):
-    """Runs the commands of docs/backup.md for a copy of the record, a second machine and an audit, while orders come."""
-    first = Machine(usbreg, f"{made}/first")
-    record, address = f"{first.lib}-record/record.jsonl", {"https://registry.example": f"http://127.0.0.1:{first.port}"}
-    first.places |= address
-    second, auditor = (Machine(usbreg, f"{made}/{it}", address) for it in ("second", "auditor"))
-    other, requests = f"{second.lib}/record.jsonl", list(rounds(1, 4 * BEFORE))
-    started = (first, "systemctl start usbreg-record.service"), (second, "systemctl start usbreg-follow.service")
-    found(usbreg, first.store)
-    first.must_run("systemctl start usbreg")
-    try:
-        first.send(requests[:30])
-        first.must_run(block("A copy of the record"))
-        second.must_run(block("A second machine"))
-        first.send(requests[30:BEFORE])
-        with Orders(first, requests[BEFORE:], APART) as orders:
-            for _ in range(FOLLOWED):
-                orders.go_on(5)
-                least = BEFORE + orders.done + 1
-                for machine, words in started:
-                    machine.must_run(words)
-                for path in (record, other):
-                    same("what is followed", least <= content(path).count(b"\n") <= BEFORE + orders.done + 2, True)
-        # what a power cut may leave: a part of a line, and lines that were replayed and not appended
-        write(record, content(record).decode()[:-20])
-        write(other, "".join(f"{it}\n" for it in lines_in(content(other))[:-7]))
-        for machine, words in started:
-            machine.must_run(words)
-        same("the copies", content(other), content(record))
-        shutil.copy(record, auditor.room)
-        auditor.must_run(block("An audit"), auditor.room)
-    finally:
-        first.must_run("systemctl stop usbreg")
-    same("the copy of the record", content(record), done([usbreg, "history", first.store]))
-    same("the second machine's tables", second.rows(), first.rows())
-    same("what Git has", done(["git", "-C", os.path.dirname(record), "show", "HEAD:record.jsonl"]), content(record))
-    take_over(first, second, requests[:3], started[1][1])
-
-
-def take_over(first, second, requests, following):
-    """Lets the second machine take over, and then both take orders, which is noticed."""
-    kept = content(f"{second.lib}/record.jsonl")
-    for machine, start, org in ((second, "systemctl start usbreg", "later"), (first, "systemctl start usbreg", "fork")):
-        machine.must_run(start)
-        machine.send([*requests, *fork(org)])
-        if machine == second:
-            machine.must_run("systemctl stop usbreg")
-    try:
-        status, said = second.runs(following)
-        same("two that took orders", (status, b"line 2: another reply: " in said, content(f"{second.lib}/record.jsonl")), (2, True, kept))
-    finally:
-        first.must_run("systemctl stop usbreg")
 
 
 def main():
     began, seed = time.monotonic(), int(time.time())
-    lacking = [it for it in ("curl", "git") if not shutil.which(it)]
+    lacking = [it for it in ("curl", "git", "ssh-keygen") if not shutil.which(it)]
     with folder() as made:
         usbreg = program(*sys.argv[1:2])
         room, records = Room(usbreg, made), Records(usbreg, made)
         each_kind(room, records)
         changed(room, records)
+        with_digests(room, records)
         in_pieces(room, records)
         one_long_line(room, records)
         stops = stopped(records, seed)
@@ -357,7 +325,7 @@ def main():
             follows(usbreg, made)
         made_up(room, records)
     print(
-        f"{room.count} records and those of two older schemas are those of a plain history, and their replays make the same"
+        f"{room.count} records and those of three older schemas are those of a plain history, and their replays make the same"
         f" registries; {stops} replays were killed (seed {seed}); {time.monotonic() - began:.0f} s"
     )
     if lacking:

@@ -9,9 +9,10 @@ cannot copy its files fails, leaves the last one, and lets the server go on.
 
 The registry that is restored has the list and the tables of the backup, and later orders are acted on anew. A second
 restore keeps what the first one replaced. Then a follower has what came after the backup, which is restored once more and
-takes other orders: the follower must stop, say that the histories part, and keep its lines. With the record of the follower
-the restored registry has all that was acknowledged, and the follower goes on. As a control, the restore is run without the lines that move the last store
-away, on a backup of the file alone: the command at its end must notice. Then the newest of two backups is damaged by one
+takes other orders: the follower must stop, say that the histories part, and keep its lines, also where the registry has the
+same line again at the place of the follower's last one, and goes on from there. With the record of the follower the restored
+registry has all that was acknowledged, and the follower goes on. As a control, the restore is run without the lines that move
+the last store away, on a backup of the file alone: the command at its end must notice. Then the newest of two backups is damaged by one
 bit, and the commands that look for a sound one must find the other, and leave no copy behind.
 
 Usage: scripts/restore_a_backup.py [PROGRAM], by default the one that `make` builds. If curl is not installed it says that
@@ -117,27 +118,36 @@ def restore_twice(machine, restore, later, before):
         time.sleep(1)
 
 
+def under_other_keys(requests):
+    return [it | {"key": f"other-{it['key']}"} for it in requests]
+
+
 def forks(usbreg, first, restore, later):
-    """Restores a backup that a follower is beyond, without a record and then with that of the follower. `later` are the
-    orders after the backup, which the registry has."""
+    """Restores a backup that a follower is beyond, twice without a record, and then with that of the follower. `later` are the
+    orders after the backup, which the registry has. After the second restore both histories have the same last line where the
+    follower is, so only its digest tells them apart."""
     def record():
         copied = copy(first.store, f"{first.room}/recorded.db")
         return done([usbreg, "history", copied]).decode()
 
+    last, *more = ({"caller": "ann", "key": it, "order": "enrol", "org": it, "title": "Lamp", "site": "https://lamp.example/"} for it in ("last", "m1", "m2", "m3", "m4"))
+    first.send([last])
     second = BackedUp(usbreg, f"{first.room}/second", {"https://registry.example": f"http://127.0.0.1:{first.port}"})
     second.must_run(block("A second machine"))
     follow, kept = "systemctl start usbreg-follow.service", f"{second.lib}/record.jsonl"
     same("what the follower has", content(kept).decode(), record())
     lines, tables = content(kept), second.rows()
-    first.must_run(restore)
-    first.send([it | {"key": f"other-{it['key']}"} for it in later[:12:3]])
-    status, said = second.runs(follow)
-    if not status or b"it goes on from " not in said or (content(kept), second.rows()) != (lines, tables):
-        sys.exit(f"a follower of another history ended with {status}, {said!r}")
+    for orders, word in ((under_other_keys(later[:12:3]), b"it goes on from an older state"), ([*under_other_keys(later), last, *more], b"has another digest of the first ")):
+        first.must_run(restore)
+        first.send(orders)
+        for _ in range(2):
+            status, said = second.runs(follow)
+            if not status or word not in said or (content(kept), second.rows()) != (lines, tables):
+                sys.exit(f"a follower of another history ended with {status}, {said!r}")
+        # the folder of the replaced files is named by the second
+        time.sleep(1)
     os.makedirs(f"{first.lib}-record")
     shutil.copy(kept, f"{first.lib}-record/record.jsonl")
-    # the folder of the replaced files is named by the second
-    time.sleep(1)
     first.must_run(restore)
     same("the restored registry after the record", first.rows(), tables)
     first.send(later[:1])
@@ -181,8 +191,8 @@ def main():
             restore_twice(machine, restore, later, before)
             forks(usbreg, machine, restore, later)
             replaced = [os.listdir(f"{machine.lib}/{it}") for it in os.listdir(machine.lib) if it.startswith("replaced-")]
-            if [sorted(it) for it in replaced] != [["numbers.db", "numbers.db-wal"]] * 4:
-                sys.exit(f"four restores kept these files of the replaced stores: {replaced}")
+            if [sorted(it) for it in replaced] != [["numbers.db", "numbers.db-wal"]] * 5:
+                sys.exit(f"five restores kept these files of the replaced stores: {replaced}")
             said = without_removal(machine, restore)
             find_a_sound_one(machine, block("A damaged store"))
         finally:

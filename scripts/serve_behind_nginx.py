@@ -1,7 +1,8 @@
 #!/usr/bin/env python3
 """Runs the proxy of contrib/nginx.conf in front of `usbreg serve`, by the commands at the top of contrib/nginx-trial.conf.
 
-Only the ports are others. The server gets the name that nginx has authenticated, whatever name the client sends; no
+Only the ports are others. The server gets the name that nginx has authenticated, whatever name the client sends, and the time
+in UTC, whatever time the client sends and in whatever zone the machine is; no
 order passes without one, nor one of a name that is no slug, nor a list of who is no curator. Bodies of the greatest sizes
 pass, and greater ones do not. Clients that stop in the middle, even 600 of them, keep nobody waiting, and of 240 clients at
 once all are served or refused at once. A maker or a curator that floods the registry, and an address that does, are refused,
@@ -27,8 +28,10 @@ nginx is not installed it says that it was skipped, and likewise for what needs 
 system schedule the proxy, the server and the other user before all else while a flood runs, so that it may run beside other
 work. The exit status is 0 if all of this holds."""
 
+import calendar
 import collections
 import concurrent.futures
+import json
 import os
 import shutil
 import sys
@@ -233,9 +236,31 @@ def guarded(recipe):
 
 
 def in_debians(recipe):
-    """Checks that the proxy serves within Debian's configuration."""
-    Gate(recipe.port).gives("in Debian's configuration", signed("ann", command(ask("k2", number="0011"))), 200, told("petition 1"))
+    """Checks that the proxy serves within Debian's configuration, where it is in another zone."""
+    gate = Gate(recipe.port)
+    gate.gives("in Debian's configuration", signed("ann", command(ask("k2", number="0011"))), 200, told("petition 1"))
     logged(recipe)
+    times(gate)
+
+
+def times(gate):
+    """Checks that an order has the time of now, in UTC, whatever time the client sends, and that a repeat does not change it."""
+    order = asked("t9", "amend-org", org="acme", title="Acme", site="https://acme.example/")
+    listed = signed(CURATOR, post("", "t9", b"1209  x\n", "/imports/acme"))
+    false = {"at": "1999-12-31T23:59:59Z"}
+    twice = signed("ann", command(order | false)).replace(b"registry-time", b"Registry-Time: 2000-01-01T00:00:00Z\r\nREGISTRY-TIME")
+    began = time.time()
+    for sent in (signed("ann", command(order)), listed, signed("ann", command(order | false)), twice):
+        same("the status of an order", gate.ask(sent)[0], 200)
+    ended, head = time.time(), json.loads(gate.ask(get("/head"))[1])
+    lines = [json.loads(it) for it in gate.ask(get(f"/history/{head['requests'] - 2}"))[1].splitlines()]
+    same("the orders in the record", [it["key"] for it in lines], ["t9", "t9"])
+    for it in lines:
+        at = calendar.timegm(time.strptime(it["at"], "%Y-%m-%dT%H:%M:%SZ"))
+        # nginx keeps the time of a moment ago
+        if not began - 2 <= at <= ended + 1:
+            sys.exit(f"an order of {time.strftime('%FT%TZ', time.gmtime(began))} has the time {it['at']}")
+    same("the time of the head", head["time"], lines[-1]["at"])
 
 
 def floods(stage):

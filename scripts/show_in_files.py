@@ -1,15 +1,17 @@
 #!/usr/bin/env python3
-"""Runs exports, reports, imports and look-ups of `usbreg` over stores and lists in files, and compares what they print.
+"""Runs exports, reports, imports, look-ups and heads of `usbreg` over stores and lists in files, and compares what they print.
 
 Usage: scripts/show_in_files.py [PROGRAM], by default the one that `make` builds. The exit status is 0 if every case
 passes."""
 
+import json
 import sys
 
 from lib.cases import Room
+from lib.plain_history import History, line as compact
 from lib.requests import line
 from lib.second_reader import devices
-from lib.usbreg import EXAMPLES, content, folder, program, run, tables
+from lib.usbreg import EXAMPLES, FOUNDING, content, folder, program, run, tables
 
 HEADER = "# List of USB numbers in the syntax of usb.ids\n"
 STAMP = "# Version: 2024.01.30\n# Date:    2024-01-30 20:34:02\n"
@@ -198,6 +200,26 @@ def look_ups(room):
     room.case(["lookup", f"{room.folder}/none.ids", "1209", "0011"], 1, errors="fault: file\n")
 
 
+def heads(room):
+    """Prints the head of an empty registry, and after each of some orders: with a time, repeated at another one, without one,
+    and refused."""
+    store, history = room.founded("headed"), History(FOUNDING)
+    enrol = {"title": "Größe", "site": LINK}
+    orders = (
+        line("ann", "k1", "enrol", org="acme", at="2026-11-28T20:34:13Z", **enrol),
+        line("ann", "k1", "enrol", org="acme", at="2027-01-01T00:00:00Z", **enrol),
+        line("ann", "k2", "enrol", org="bolt", **enrol),
+        line("ann", "k3", "enrol", org="bolt", at="2026-11-29T00:00:00Z", **enrol),
+    )
+    room.case(["head", store], output=f"{compact(history.head())}\n")
+    for order in orders:
+        reply = history.answer(json.loads(order))
+        room.case(["apply", store, room.file("order.jsonl", order)], output=f"{compact(reply)}\n")
+        room.case(["head", store], output=f"{compact(history.head())}\n")
+    room.case(["head", f"{room.folder}/none.db"], 1, errors="fault: file\n")
+    room.case(["head", room.file("empty4.db", "")], 1, errors="fault: foreign\n")
+
+
 def second_reader(room):
     """Checks that another program reads in an export what a look-up finds in it."""
     store = room.founded("read")
@@ -220,7 +242,7 @@ def second_reader(room):
 def main():
     with folder() as made:
         room = Room(program(*sys.argv[1:2]), made)
-        for cases in (exports, reports, imports, look_ups, second_reader):
+        for cases in (exports, reports, imports, look_ups, heads, second_reader):
             cases(room)
         print(f"what is shown of files: {room.seen} cases are as they should be")
 

@@ -5,7 +5,7 @@ Each refusal that docs/requests.md lists with a status is met (`lib/desk_refusal
 alone, sends half of a message and closes, sends nothing, sends a message and more after it, sends 5 MB that are refused
 unread, and makes 200 connections one after another. A port that is taken, a count of connections, a store that is already
 open and a file that can grow no more end the program as docs/requests.md says. A record that begins with the founding's line
-can be replayed, and the list and the reports are those after the orders so far. The script also kills the program as
+can be replayed, the head is that of the record, and the list and the reports are those after the orders so far. The script also kills the program as
 `kill -9` does, in the middle of commands: each command whose response came was acted on, at most one more was, and in the
 end the tables are those of a run without stops.
 
@@ -13,6 +13,7 @@ Usage: scripts/talk_to_the_desk.py [STOPS [PROGRAM]], by default 20 stops of the
 installed it says so and skips only what needs it. The exit status is 0 if all of this holds."""
 
 import contextlib
+import hashlib
 import json
 import os
 import random
@@ -25,10 +26,11 @@ import threading
 import time
 
 from lib.desk_orders import ENROL, ENROLLED, LINK, ask, asked
-from lib.desk_refusals import Desk, each_refusal, fields
+from lib.desk_refusals import TIME, Desk, each_refusal, fields
+from lib.plain_history import History
 from lib.serving import PATIENCE, TEXT, command, connected, done, exchange, free_port, get, message, post, read_to_end, refused, response, serving
 from lib.stopping import kept, look
-from lib.usbreg import REPORTS, apply, done as printed, folder, found, program, rounds, run, same, tables, write, write_requests
+from lib.usbreg import FOUNDING, REPORTS, apply, done as printed, folder, found, program, rounds, run, same, tables, write, write_requests
 
 # The most lines of a page of the record.
 PAGE = 1000
@@ -99,27 +101,43 @@ def record_line(request, reply):
     return compact({**request, "done": reply}) + b"\n"
 
 
+def first_of_record():
+    """Returns the line of the founding in a record."""
+    return compact({name: it for name, it in FOUNDED.items() if name != "vendors"}) + b"\n"
+
+
 def compact(fields):
     return json.dumps(fields, sort_keys=True, separators=(",", ":"), ensure_ascii=False).encode()
 
 
+def digests_of(lines):
+    """Returns the digest after each line of a record."""
+    digests = [""]
+    for line in lines:
+        digests.append(hashlib.sha256(digests[-1].encode() + line).hexdigest())
+    return digests[1:]
+
+
 def record(port):
-    """Asks for the founding and for pages of the record: as many lines as fit, from a place on, and from behind its end."""
+    """Asks for the founding and for pages of the record: as many lines as fit, from a place on, and from behind its end. Each
+    has the digest that it continues, if the record has as many lines."""
     same("the founding", exchange(port, get("/founding")), response(compact(FOUNDED) + b"\n"))
     lines = [record_line(ENROL, "enrolled acme")]
     for number in range(1, PAGE + 10):
         request = asked(f"h{number}", "amend-org", org="acme", title="Acme", site=LINK)
         same(f"amendment {number}", exchange(port, command(request)), done("amended organisation acme"))
         lines.append(record_line(request, "amended organisation acme"))
-    for after in (0, 1, 63, 64, 65, 10, 11, len(lines) - 1, len(lines), 10**6, 2**32 - 1):
-        same(f"the record after {after}", exchange(port, get(f"/history/{after}")), response(b"".join(lines[after : after + PAGE]), kind=TEXT))
+    digests = digests_of([first_of_record(), *lines])
+    for after in (0, 1, 63, 64, 65, 10, 11, len(lines) - 1, len(lines), len(lines) + 1, 10**6, 2**32 - 1):
+        page, digest = b"".join(lines[after : after + PAGE]), digests[after] if after <= len(lines) else None
+        same(f"the record after {after}", exchange(port, get(f"/history/{after}")), response(page, kind=TEXT, digest=digest))
 
 
 def first_line(usbreg, room):
     """Asks for the founding of the record before and after a licence was added, and after a refused order. A record that
     begins with it is the one that `usbreg history` prints, and can be replayed."""
     store = found(usbreg, f"{room}/first.db")
-    line = compact({name: it for name, it in FOUNDED.items() if name != "vendors"}) + b"\n"
+    line = first_of_record()
     with serving(usbreg, store).up() as server:
         port = server.port
         same("the first line", exchange(port, get("/history/founding")), response(line, kind=TEXT))
@@ -132,6 +150,27 @@ def first_line(usbreg, room):
     same("the record", printed([usbreg, "history", store]), line + rest)
     printed([usbreg, "replay", f"{room}/second.db", write(f"{room}/record.jsonl", (line + rest).decode())])
     same("the tables of the record", tables(f"{room}/second.db"), tables(store))
+
+
+def heads(usbreg, room):
+    """Asks for the head after each order, some with a time: it is that of a plain history, and stays the same after repeats,
+    also at another time, and after refused orders. A petition has the reason for which it was declined."""
+    history, store = History(FOUNDING), found(usbreg, f"{room}/heads.db")
+    listed = "1209  Shared products\n\t0012  Clock\n"
+    orders = [
+        ENROL | {"at": TIME}, ask("k2"), ask("k3") | {"at": "2026-11-29T00:00:00Z"}, asked("d1", "decline", "cora", petition=1, reason="No files at the link") | {"at": TIME},
+        asked("d2", "decline", "cora", petition=2), asked("d3", "decline", "cora", petition=2, reason="Late"), asked("i1", "import", "cora", org="acme", list=listed) | {"at": TIME},
+        asked("d1", "decline", "cora", petition=1, reason="Another") | {"at": TIME}, ENROL | {"at": "2027-01-01T00:00:00Z"}, ENROL,
+    ]
+    with serving(usbreg, store).up() as server:
+        for it in (None, *orders):
+            if it:
+                same(f"{it}", exchange(server.port, command(it)).partition(b"\r\n\r\n")[2], compact(history.answer(it)) + b"\n")
+            same(f"the head after {it}", exchange(server.port, get("/head")), response(compact(history.head()) + b"\n"))
+        card = {"licence": "MIT", "org": "acme", "site": LINK, "source": LINK, "state": "declined", "title": "Lamp"}
+        for number, reason in ((1, {"reason": "No files at the link"}), (2, {})):
+            same(f"petition {number}", exchange(server.port, get(f"/petitions/{number}")), response(compact(card | {"id": number} | reason) + b"\n"))
+    same("the record", printed([usbreg, "history", store]), "".join(f"{it}\n" for it in history.record()).encode())
 
 
 def texts(usbreg, room):
@@ -298,6 +337,7 @@ def main():
         print(f"{each_refusal(usbreg, room)} refusals")
         own_client(usbreg, room)
         first_line(usbreg, room)
+        heads(usbreg, room)
         texts(usbreg, room)
         ends(usbreg, room)
         print(f"a store that failed after {full(usbreg, room)} commands")

@@ -110,6 +110,9 @@ def set_up(first, room, package):
     same("a grant", first.order("curator-1", given["curator-1"], "walk-3", {"order": "grant", "petition": 1}), '{"done":"granted 0011 to acme by petition 1"}\n')
     same("the list as a file", first.step("The list").lower().count("content-encoding: gzip"), 1)
     first.step("The reports")
+    *_, digest, head = first.step("Times and digests", where="/root").splitlines()
+    same("the digest by hand", json.loads(head)["digest"], digest)
+    same("the day of the last order", json.loads(head)["time"][:10] in first.must_run("date -u +%F; date -u -d '10 minutes ago' +%F").split(), True)
     same("the rules", first.step("The rules").splitlines()[:1], ["# Who gets a number"])
     return given
 
@@ -142,6 +145,7 @@ def keep(first, room):
     first.step("Backup")
     same("the archive is here alone", first.watched()["archive"], False)
     first.step("A copy of the record")
+    signed_head(first)
     # an archive of today with the record
     same("an archive", first.step("An archive, off the machine").count("tar.gz"), 2)
     first.step("Restore")
@@ -156,6 +160,15 @@ def keep(first, room):
     first.must_run("touch /var/backups/usbreg/*.ids")
     for ending in ("", ".sha256"):
         first.take(f"/mnt/archives/usbreg-{first.must_run('date +%F').strip()}.tar.gz{ending}", f"{room}/archive{ending}")
+
+
+def signed_head(first):
+    """Signs the head of today, and checks the signature, and the record by it."""
+    title = "A signed head each day"
+    same("the public key", first.step(title).splitlines()[-1][:12], "ssh-ed25519 ")
+    same("the signature", first.step(title, 1, "/root").startswith('Good "usbreg-head" signature'), True)
+    first.must_run("cp /var/lib/usbreg-record/record.jsonl .")
+    same("the record by the signed head", first.step(title, 2, "/root"), "")
 
 
 def firewall(first):

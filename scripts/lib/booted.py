@@ -12,7 +12,7 @@ import time
 from lib.usbreg import content, write
 
 SYSTEMD = "/lib/systemd/systemd"
-NEEDED = ("unshare", "nsenter", "ip", "dpkg", "nginx", "htpasswd", "curl", "git", "openssl", "logrotate", "runuser", "systemd-hwdb")
+NEEDED = ("unshare", "nsenter", "ip", "dpkg", "nginx", "htpasswd", "curl", "git", "openssl", "logrotate", "runuser", "ssh-keygen", "systemd-hwdb")
 # The seconds that a machine may take to boot, and a command on it.
 PATIENCE = 300
 UNSHARE = ("unshare", "--mount", "--pid", "--net", "--uts", "--ipc", "--cgroup", "--fork", "--kill-child")

@@ -23,6 +23,9 @@ def missing():
     return lacking + ["python3-selenium"] * (importlib.util.find_spec("selenium") is None)
 
 
+# Where the browser is: nine hours ahead of UTC.
+ZONE = "Asia/Tokyo"
+
 # Counts what the content security policy forbids, on each page that is opened.
 COUNT_VIOLATIONS = """
 addEventListener('securitypolicyviolation', it => sessionStorage.setItem('broken', `${sessionStorage.getItem('broken') ?? ''}${it.effectiveDirective} `));
@@ -65,6 +68,7 @@ class Browser:
     def prepare(self, width=1280, dark=False):
         """Makes a new window one of the story."""
         self.driver.execute_cdp_cmd("Page.addScriptToEvaluateOnNewDocument", {"source": COUNT_VIOLATIONS})
+        self.driver.execute_cdp_cmd("Emulation.setTimezoneOverride", {"timezoneId": ZONE})
         self.look(width, dark)
 
     def look(self, width, dark=False, height=1000):

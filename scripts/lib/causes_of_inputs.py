@@ -64,6 +64,8 @@ BAD_FIELDS = [
     ({"order": '"return"', "number": "11"}, "number", "number is 11; it must be a text of four hexadecimal digits, not 0000"),
     ({"order": '"reserve"', "first": '"0011"', "last": '"0010"'}, "last", 'last is "0010"; it must be a text of four hexadecimal digits, not 0000, and of no lower number than first'),
     ({"order": '"decline"', "petition": "0"}, "petition", "petition is 0; it must be a whole number from 1 to 4294967295"),
+    ({"order": '"decline"', "petition": "1", "reason": '""'}, "reason", f'reason is ""; it must be {TITLE}'),
+    ({"at": '"2026-11-28"'}, "at", 'at is "2026-11-28"; it must be a time as 2026-11-28T20:34:13Z'),
 ]
 
 
@@ -173,6 +175,12 @@ def try_counts_and_records(cases):
     other = REQUEST.replace(ORDER, '"done":"petition 1","order"')
     words = 'standard input: line 1: the record has {"done":"petition 1"}'
     cases.case(["replay", "CASE/numbers.db", "-"], 2, 'line 1: another reply: {"done":"enrolled acme"}\n', words, given=other.encode())
+    for digest, said, words in (
+        ("0" * 63, f'{{"detail":"digest",{FIELD}', f'digest is "{"0" * 63}..; it must be a text of 64 of 0-9 and a-f'),
+        ("0" * 64, "another record\n", f'digest is "{"0" * 63}..; the record of the registry has another there'),
+    ):
+        line = REQUEST.replace(ORDER, f'{DONE[:-7]}"digest":"{digest}",{ORDER}').encode()
+        cases.case(["replay", "CASE/numbers.db", "-"], 2, f"line 1: {said}", f"standard input: line 1: {words}", given=line)
     done = '{"done":"imported fresh 1, owned 0, reserved 0, doubled 0, untitled 1, zero 0"}'
     lines = f'{REQUEST.replace(ORDER, DONE)}{{"caller":"cora",{done[1:-3]}1","items":[["0011","Blinker"],["0012",null]],"key":"k2","order":"import","org":"acme"}}\n'
     words = f"standard input: line 2: the record has {done[:-3]}1\"}}"

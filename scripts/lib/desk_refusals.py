@@ -13,6 +13,12 @@ from lib.usbreg import found, run, same, write
 
 # Refusals that no message alone causes: a fault of the store, and out of memory.
 OF_RESOURCES = {30, 31}
+# A time, and what is none.
+TIME = "2026-11-28T20:34:13Z"
+NO_TIMES = (
+    "", "2026-11-28", "2026-11-28T20:34:13", "2026-11-28T20:34:13+00:00", "2026-11-28t20:34:13Z", "2026-11-28T20:34:13z", "2026-11-28 20:34:13Z", "2026-11-28T20:34:13.5Z",
+    "12026-11-28T20:34:13Z", "2026-00-28T20:34:13Z", "2026-13-28T20:34:13Z", "2026-11-00T20:34:13Z", "2026-11-32T20:34:13Z", "2026-11-28T24:00:00Z", "2026-11-28T20:60:00Z", "2026-11-28T20:34:60Z",
+)
 
 
 class Desk:
@@ -99,10 +105,10 @@ def by_messages(desk):
     enrol = fields("ann", "k9")
     desk.refuses(20, *itertools.chain(*(("-H", f"x-{number}: 1") for number in range(65))), "/list")
     desk.refuses(20, "-H", "x: " + "a" * HEAD, "/list")
-    for path in ("/", "/lists", "/list/", "/numbers/12", "/numbers/0000", "/orgs/Acme", "/petitions/0", "/petitions/01", "/reports/all", "/history", "/history/", "/history/01", "/history/-1", "/history/4294967296", "/founding/", "/history/founding/", "/history/Founding", "/numbers/%30%30%31%31"):
+    for path in ("/", "/lists", "/list/", "/numbers/12", "/numbers/0000", "/orgs/Acme", "/petitions/0", "/petitions/01", "/reports/all", "/history", "/history/", "/history/01", "/history/-1", "/history/4294967296", "/founding/", "/head/", "/heads", "/history/founding/", "/history/Founding", "/numbers/%30%30%31%31"):
         desk.refuses(24, path)
     desk.refuses(24, "-d", "", "/imports/Acme")
-    for method, path, allow in (("DELETE", "/list", "GET"), ("POST", "/numbers/0011", "GET"), ("POST", "/history/0", "GET"), ("POST", "/founding", "GET"), ("POST", "/history/founding", "GET"), ("GET", "/commands", "POST"), ("PUT", "/imports/acme", "POST")):
+    for method, path, allow in (("DELETE", "/list", "GET"), ("POST", "/head", "GET"), ("POST", "/numbers/0011", "GET"), ("POST", "/history/0", "GET"), ("POST", "/founding", "GET"), ("POST", "/history/founding", "GET"), ("GET", "/commands", "POST"), ("PUT", "/imports/acme", "POST")):
         desk.refuses(25, "-X", method, path, allow=allow)
     desk.refuses(21, *enrol, "-H", "transfer-encoding: chunked", "-d", "{}", "/commands")
     desk.refuses(21, *enrol, "-X", "POST", "/commands")
@@ -115,6 +121,11 @@ def by_messages(desk):
     for words, field in ((("-H", "registry-key: k9"), "caller"), (fields("Ann", "k9"), "caller"), (fields("ann", "k 9"), "key"), (("-H", "registry-caller: ann"), "key")):
         desk.refuses(26, *words, "-d", "{}", "/commands", detail=f"registry-{field}")
     desk.refuses(26, *enrol, *enrol, "-d", "{}", "/commands", detail="registry-caller")
+    for it in NO_TIMES:
+        desk.refuses_bytes(26, message("POST", "/commands", b"{}", registry_caller="ann", registry_key="k9", registry_time=it), detail="registry-time")
+    time = "-H", f"registry-time: {TIME}"
+    desk.refuses(26, *enrol, *time, *time, "-d", "{}", "/commands", detail="registry-time")
+    desk.refuses_list(26, "1209  x\n", "-H", "registry-time: now", detail="registry-time")
     desk.refuses_bytes(23, command(ENROL)[:-1])
     desk.refuses(27, *enrol, "-d", "[]", "/commands")
     desk.refuses(27, *enrol, "-d", "", "/commands")

@@ -6,7 +6,7 @@ import time
 
 from lib.proxy import FEW, Gate, connected, signed, told
 from lib.serving import command, read_to_end, serving
-from lib.usbreg import put_rows, same
+from lib.usbreg import kept_rows, put_rows, same
 
 # The least number of the registry; how many accepted requests it has, and the canonical form of each.
 FIRST, ACCEPTED, AMENDED = 0x2000, 10_000, b"amend-org\tfull\tFull\thttps://full.example/"
@@ -30,7 +30,7 @@ def filled(store, numbers):
     return put_rows(store, (
         ("INSERT INTO orgs VALUES (?, 'Full', 'https://full.example/', 'mallory')", [("full",)]),
         ("INSERT INTO entries3 VALUES (0x1209, ?, 'full', 1, ?, NULL, NULL, NULL)", ((it, f"Device {it}") for it in range(FIRST, FIRST + numbers))),
-        ("INSERT INTO kept VALUES ('mallory', ?, ?, 'amended organisation full')", ((f"a{it}", AMENDED) for it in range(ACCEPTED))),
+        *kept_rows(("mallory", f"a{it}", AMENDED, "amended organisation full") for it in range(ACCEPTED)),
     ))
 
 

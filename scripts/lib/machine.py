@@ -38,7 +38,7 @@ class Machine:
         self.store = f"{self.lib}/numbers.db"
         for name in ("bin", "lib", "units"):
             os.makedirs(f"{room}/{name}")
-        folders = {"/var/lib/usbreg": self.lib, "/var/backups/usbreg": f"{room}/backups", "/usr/local/lib/usbreg": CONTRIB, "/etc/usbreg/settings": f"{room}/settings"}
+        folders = {"/var/lib/usbreg": self.lib, "/var/backups/usbreg": f"{room}/backups", "/usr/local/lib/usbreg": CONTRIB, "/etc/usbreg": room}
         self.places = folders | {":8080": f":{self.port}"} | (others or {})
         write(f"{room}/places", "".join(f"s|{text}|{other}|g\n" for text, other in self.places.items()))
         os.symlink(usbreg, f"{room}/bin/usbreg")
@@ -53,7 +53,7 @@ class Machine:
         for text, other in (self.places | {"--retry-delay 1": "--retry-delay 0"}).items():
             commands = commands.replace(text, other)
         with open(f"{self.room}/said", "w+b") as said:
-            status = subprocess.run(["sh", "-ec", commands], cwd=at, env=self.env, stdout=said, stderr=said, check=False, timeout=120).returncode
+            status = subprocess.run(["sh", "-ec", commands], cwd=at, env=self.env, stdout=said, stderr=said, check=False, timeout=600).returncode
         return status, content(f"{self.room}/said")
 
     def must_run(self, commands, at=TOP):

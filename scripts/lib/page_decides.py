@@ -3,7 +3,7 @@
 import time
 
 from lib.page_orders import SHOWN
-from lib.staging import CURATOR, OTHER, done
+from lib.staging import CURATOR, DAY, OTHER, done
 from lib.usbreg import same
 
 
@@ -42,11 +42,26 @@ def decides(page, stage):
     page.one("dialog input").send_keys("1209:00Ab")
     same("the hostile title in a question", SHOWN in page.yes(), True)
     page.has("Done: granted 1209:00ab", card(4))
-    decide(page, stage, 5, "Decline", "Lost", "declined petition 5", "declined petition 5")
+    page.press("[aria-label='Decline petition 5']")
+    too_long(page)
+    decide(page, stage, 5, "Decline", "Lost", "declined petition 5", "declined petition 5", "It came twice")
     decide(page, stage, 17, "Grant", "Second", "granted cafe:00ab to acme by petition 17", "granted cafe:00ab to acme by petition 17")
     page.open("decide")
     page.has("13 open petitions.", "#count")
     page.has("1209:0011 is not free: it is held.", card(18))
+    page.open("petition/5")
+    page.has("State\ndeclined\nReason\nIt came twice")
+    page.has(f"{DAY}\tcurator-1\tdeclined petition 5: It came twice", ".story")
+
+
+def too_long(page):
+    """A reason that the registry would not take is not sent."""
+    page.one("dialog input").send_keys("ä" * 101)
+    page.press("dialog[open] button.main")
+    wrong = page.run("return document.querySelector('dialog[open] input')?.validationMessage")
+    same("what is wrong with a long reason", wrong, "This has 202 bytes; at most 200 are kept.")
+    page.button("Cancel", "dialog")
+    page.until(lambda: not page.all("dialog[open]"), "the end of the question")
 
 
 def stands_in_one_line(page):
@@ -58,11 +73,14 @@ def stands_in_one_line(page):
     page.browser.look(1280)
 
 
-def decide(page, stage, petition, words, title, reply, shown):
+def decide(page, stage, petition, words, title, reply, shown, reason=""):
     page.press(f"[aria-label='{words} petition {petition}']")
+    if reason:
+        page.one("dialog input").send_keys(reason)
     same("the title in the question", title in page.yes(), True)
     page.has(f"Done: {shown}.", card(petition))
-    body = f'{{"order":"{words.lower()}","petition":{petition}}}'
+    given = f',"reason":"{reason}"' if reason else ""
+    body = f'{{"order":"{words.lower()}","petition":{petition}{given}}}'
     same("what was sent", [it.strip() for it in stage.relay.tries[-1][1:]], [body, done(reply)])
 
 
@@ -81,16 +99,20 @@ def decides_on_many(page, stage):
     page.has("2 petitions chosen:", "#chosen")
     before = len(stage.relay.tries)
     page.button("Decline them", "#chosen")
+    page.one("dialog input").send_keys("Not now")
     asked = page.yes()
     same("what the question names", [it for it in ("Killed later", "Kept") if it not in asked], [])
     for petition in (10, 11):
         page.has(f"Done: declined petition {petition}.", card(petition))
     tries = stage.relay.tries[before:]
-    same("what was sent", [body for _, body, _ in tries], [f'{{"order":"decline","petition":{it}}}' for it in (10, 11)])
+    same("what was sent", [body for _, body, _ in tries], [f'{{"order":"decline","petition":{it},"reason":"Not now"}}' for it in (10, 11)])
     same("the keys", len({key for key, _, _ in tries}), 2)
     stage.orders(OTHER, "y12", {"order": "grant", "petition": 12})
     page.has(f"It was granted by {OTHER}.", card(12))
-    page.has("10 open petitions; 3 petitions closed since.", "#count")
+    stage.orders(OTHER, "y14", {"order": "decline", "petition": 14, "reason": "Ask elsewhere"})
+    page.has(f"It was declined by {OTHER}: Ask elsewhere", card(14))
+    page.has("9 open petitions; 4 petitions closed since.", "#count")
+    by_its_form(page)
     page.open("petition/13")
     page.one("[aria-label='Grant petition 13']")
     stage.orders(OTHER, "y13", {"order": "decline", "petition": 13})
@@ -98,6 +120,15 @@ def decides_on_many(page, stage):
     page.yes()
     page.answer("This petition is closed already.")
     same("how it is shown", page.one(".answer").get_attribute("class"), "answer fault")
+
+
+def by_its_form(page):
+    page.open("do/decline?petition=15")
+    page.fill(reason="Ask later")
+    page.submit()
+    page.one("dialog[open] button.main")
+    same("the reason in the question", "Reason\nAsk later" in page.text("dialog"), True)
+    page.button("Cancel", "dialog")
 
 
 def corrects(page, stage):
@@ -134,6 +165,8 @@ def corrects(page, stage):
     page.open("number/1209/0033")
     page.has("Only its owner can get it again.")
     page.has("curator-1\trevoked 1209:0033: No product uses it", ".story")
+    days = page.run("return [...document.querySelectorAll('.story tbody tr')].map(it => it.children[1].innerText)")
+    same("the days of entries, of which the first ones have no time", days, ["", "", DAY, DAY])
 
 
 def curates(page, stage):

@@ -3,6 +3,7 @@ the one in cases/heard.txt."""
 
 import difflib
 import json
+import re
 import sys
 import time
 
@@ -14,8 +15,9 @@ HEARD = f"{TOP}/cases/heard.txt"
 KEPT = 11
 HEAD = """\
 # What a screen reader is told of each view of the page, as Chromium says it: a line for each part, with its role, its name, its
-# value, its states and what describes it. A text that the name above has already is left out. The first view has what stands
-# around all of them; of the others the main part is here, and a question that is asked.
+# value, its states and what describes it. A text that the name above has already is left out, and so are the digits of a digest,
+# which are others in each run. The first view has what stands around all of them; of the others the main part is here, and a
+# question that is asked.
 # `scripts/use_the_page.py --heard` writes this file anew: read what it changes, as somebody hears it who sees nothing.
 """
 # The views of a maker and of a curator. What a name is about keeps a form apart from the ones that others began.
@@ -24,11 +26,12 @@ MAKERS = (
     "do", "do/enrol?org=new", "do/ask?number=0123&org=acme", "do/amend?number=0011", "do/hand-over?org=acme", "do/return?number=0011", "do/withdraw?petition=19", "nowhere",
 )
 CURATORS = (
-    "decide?q=thermometer", "number/1209/0011", "org/bobs-boards", "petition/2", "do/grant?petition=2", "do/correct?number=0011", "do/correct-org?org=bobs-boards",
-    "do/revoke?number=0011", "do/reserve?first=0100&last=0101", "do/add-vendor?vendor=beef",
+    "decide?q=thermometer", "number/1209/0011", "org/bobs-boards", "petition/2", "petition/5", "do/grant?petition=2", "do/decline?petition=2",
+    "do/correct?number=0011", "do/correct-org?org=bobs-boards", "do/revoke?number=0011", "do/reserve?first=0100&last=0101", "do/add-vendor?vendor=beef",
 )
 # What has no meaning of its own: its parts are told in its place.
 PASSED = {"InlineTextBox", "LabelText", "LineBreak", "ListMarker", "MenuListPopup", "caption", "generic", "none", "paragraph", "rowgroup"}
+DIGEST = re.compile("[0-9a-f]{64}")
 STATES = ("checked", "disabled", "expanded", "focused", "invalid", "level", "modal", "readonly", "required", "selected")
 
 
@@ -39,7 +42,7 @@ def told(node):
     here = [f"level={states[it]}" if it == "level" else it for it in STATES if states.get(it) not in (None, False, "false")]
     if role in ("RootWebArea", "listitem"):
         here = []
-    quoted = [json.dumps(it.strip(), ensure_ascii=False) if it else "" for it in (name, value, description)]
+    quoted = [json.dumps(DIGEST.sub("…", it.strip()), ensure_ascii=False) if it else "" for it in (name, value, description)]
     parts = (role.replace("StaticText", "text"), quoted[0], quoted[1] and f"= {quoted[1]}", here and f"[{', '.join(here)}]", quoted[2] and f"({quoted[2]})")
     return " ".join(it for it in parts if it)
 

@@ -1,5 +1,6 @@
 """What anybody does with the page: look, search, read the rules, and come by an old link."""
 
+import json
 import os
 import re
 import time
@@ -54,6 +55,8 @@ def looks(page, stage):
     page.has("1209:0033\tSerial adapter\theld")
     page.open("record")
     page.has("5 entries; 5 down to 1 shown")
+    ends = json.loads(page.run("return fetch('/head').then(it => it.text())"))
+    page.has(f"Entries\n{ends['requests']}\nDigest\n{ends['digest']}")
     page.open("record/2")
     page.has("5 entries; 2 down to 1 shown")
     page.button("Newer")

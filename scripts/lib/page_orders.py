@@ -1,6 +1,6 @@
 """What makers do with the page: enrol, ask, amend and return."""
 
-from lib.staging import CURATOR, done
+from lib.staging import CURATOR, DAY, TIME, done
 from lib.usbreg import same
 
 HOSTILE = "<script>document.title='owned'</script><img src=x onerror=alert(1)> \u202egpj.exe"
@@ -113,6 +113,10 @@ def amends(page, stage):
     page.open("number/1209/0011")
     page.has("Blinker 2")
     page.has("ann\tamended 1209:0011: Blinker 2", ".story")
+    times = page.run("return [...document.querySelectorAll('.story time')].map(it => [it.dateTime, it.title, it.innerText])")
+    same("the times of the entries", times, [[TIME, TIME, DAY]] * 3)
+    page.open("record")
+    page.has(f"Newest\n{DAY}")
     page.open("petition/6")
     page.button("Withdraw it")
     page.one("#f-petition")
@@ -162,7 +166,7 @@ def sees_a_grant_at_once(page, stage):
     page.has("granted")
     page.open("me")
     page.has("1209:0025\tToo many\theld")
-    page.has("declined by curator-1", ".story")
+    page.has(f"declined by curator-1, {DAY}: Not now", ".story")
     page.button("Ask again")
     same("what is asked for again", page.run("return [...document.querySelectorAll('form.order :is(input, select)')].map(it => it.value)"),
-         ["acme", "1209", "0048", "Two windows", "MIT", "https://acme.example/blinker", "https://acme.example/src"])
+         ["acme", "1209", "0049", "Told", "MIT", "https://acme.example/blinker", "https://acme.example/src"])

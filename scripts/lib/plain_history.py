@@ -6,6 +6,7 @@ one."""
 
 import json
 import tomllib
+from hashlib import sha256
 
 REFUSALS = {
     1: "KeyReused", 2: "NotCurator", 3: "NotKeeper", 4: "NoOrg", 5: "OrgTaken", 6: "NoPetition", 7: "PetitionClosed",
@@ -18,7 +19,7 @@ FIELDS = {
     "enrol": ("org", "title", "site"), "amend-org": ("org", "title", "site"), "hand-over": ("org", "keeper"),
     "correct-org": ("org", "title", "site"),
     "ask": ("org", "number", "title", "licence", "site", "source", "vendor"), "grant": ("petition", "number"),
-    "decline": ("petition",), "withdraw": ("petition",),
+    "decline": ("petition", "reason"), "withdraw": ("petition",),
     "amend": ("number", "title", "licence", "site", "source", "vendor"), "return": ("number", "vendor"),
     "correct": ("number", "title", "licence", "site", "source", "vendor"), "revoke": ("number", "reason", "vendor"),
     "reserve": ("first", "last", "vendor"), "release": ("first", "last", "vendor"),
@@ -40,7 +41,7 @@ class Refused(Exception):
 
 def is_optional(order, field):
     """Returns whether the order may leave the field out."""
-    return field in OPTIONAL.get(order, ()) or (field == "vendor" and order != "add-vendor")
+    return field in OPTIONAL.get(order, ()) or (field == "vendor" and order != "add-vendor") or (order, field) == ("decline", "reason")
 
 
 def check(passes, number, detail=None):
@@ -158,7 +159,7 @@ class History:
                 texts += [f"{pid:04x}={title}" for pid, title in items(request["list"])]
             elif field in OPTIONAL.get(request["order"], ()):
                 texts.append(request.get(field) or "-")
-            elif field != "vendor" or request.get(field):
+            elif field not in ("vendor", "reason") or request.get(field):
                 texts.append(str(request[field]))
         return "\t".join(texts)
 
@@ -325,7 +326,44 @@ class History:
             lines += [f"\t{it[1]:04x}  {title}" for it, title in titles.items() if it[0] == vid]
         return lines
 
+    # The record, and its digests.
+
+    def founding_line(self):
+        """Returns the line of the founding: its arrays ascend, and each span has both ends."""
+        spans = ["-".join([it.split("-")[0], it.split("-")[-1]]) for it in self.founding["fixed"]]
+        sets = {"curators": self.founding["curators"], "licences": self.founding["licences"], "fixed": spans}
+        return line(self.founding | {"vendor": self.founding["vendor"].lower()} | {it: sorted(sets[it]) for it in sets})
+
+    def accepted_line(self, deed):
+        """Returns the line of an accepted request, which names its time if it has one."""
+        names = (*FIELDS[deed["order"]], "caller", "key", "order", "at")
+        told = {it: deed[it] for it in names if deed.get(it) is not None and it != "list"}
+        if deed["order"] == "import":
+            told["items"] = [[f"{pid:04x}", title or None] for pid, title in items(deed["list"])]
+        return line(told | {"done": deed["reply"]})
+
+    def record(self):
+        """Returns the lines of the record."""
+        return [self.founding_line(), *map(self.accepted_line, self.deeds)]
+
+    def head(self):
+        """Returns what is told of the end of the record."""
+        number, time, digest = self.digests()[-1]
+        return {"digest": digest, "requests": number} | ({"time": time} if time else {})
+
+    def digests(self):
+        """Returns the ID, the time and the digest of each line: of the digest before it, and the line with its line feed."""
+        rows, digest = [], ""
+        for number, (told, time) in enumerate(zip(self.record(), [None, *(it.get("at") for it in self.deeds)], strict=True)):
+            digest = sha256(f"{digest}{told}\n".encode()).hexdigest()
+            rows.append((number, time, digest))
+        return rows
+
     # The tables.
+
+    def kept(self):
+        """Returns the rows of the accepted requests, in the order in which they came."""
+        return [(it["caller"], it["key"], it["form"].encode(), it["reply"]) for it in self.deeds]
 
     def card(self, number):
         """Returns title, licence, site and source of an owned number, as they were given or amended last."""
@@ -362,7 +400,7 @@ class History:
     def tables(self):
         """Returns the rows of each table, ascending."""
         return {
-            "meta": [(1, 3, self.founder, self.founding["name"])],
+            "meta": [(1, 4, self.founder, self.founding["name"])],
             "curators": sorted((it,) for it in self.founding["curators"]),
             "licences": sorted((it,) for it in self.licences()),
             "fixed": sorted((int(it.split("-")[0], 16), int(it.split("-")[-1], 16)) for it in self.founding["fixed"]),
@@ -371,7 +409,9 @@ class History:
             "spans3": self.reserved_spans(),
             "entries3": [(*it, self.owner(it), int(self.is_held(it)), *self.card(it)) for it in self.owned()],
             "petitions3": [self.petition_row(*it) for it in enumerate(self.of_order("ask"), 1)],
-            "kept": sorted((it["caller"], it["key"], it["form"].encode(), it["reply"]) for it in self.deeds),
+            "digests4": self.digests(),
+            "reasons4": [(it["petition"], it["reason"]) for it in self.of_order("decline") if it.get("reason")],
+            "kept": sorted(self.kept()),
             **{older: [] for older in ("petitions", "entries", "reserved", "spans")},
         }
 

@@ -171,7 +171,7 @@ class Small(Guarded):
 
 
 class Packaged(Recipe):
-    """The same in Debian's configuration, whose folders and pid are those of the room."""
+    """The same in Debian's configuration, whose folders and pid are those of the room. It is in the zone of Japan."""
 
     def __init__(self, room, server):
         super().__init__(room, server)
@@ -179,7 +179,7 @@ class Packaged(Recipe):
         text = text.replace("include /etc/nginx/sites-enabled", "#").replace("/var/log/nginx", self.folder).replace("/run/nginx.pid", f"{self.folder}/debian.pid")
         write(f"{self.folder}/debian.conf", text)
         os.symlink(MODULES, f"{self.folder}/modules")
-        self.start, self.stop = (it.replace("nginx-trial.conf", "debian.conf") for it in (self.start, self.stop))
+        self.start, self.stop = (f"TZ=JST-9 {it.replace('nginx-trial.conf', 'debian.conf')}" for it in (self.start, self.stop))
 
 
 def wait(port, is_up):

@@ -90,6 +90,11 @@ class Chance:
     def petition(self):
         return self.dice.randint(1, 40)
 
+    def time(self):
+        """Returns a time of any year. Each month has 31 days."""
+        parts = [self.dice.randint(*it) for it in ((0, 9999), (1, 12), (1, 31), (0, 23), (0, 59), (0, 59))]
+        return "{:04}-{:02}-{:02}T{:02}:{:02}:{:02}Z".format(*parts)
+
     def list(self):
         lines = [f"\t{self.dice.randint(0, 13):04x}  {self.one_of('', self.title(), self.title())}\n" for _ in range(self.dice.randint(0, 3))]
         return "{}  Vendor\n" + "".join(lines)
@@ -108,6 +113,7 @@ class Chance:
         return {it: self.value(it) for it in named}
 
     def request(self):
+        """Returns a request. Some have a time, but no import, to which `usbreg import` gives none."""
         # Petitions are asked for and granted more often than other orders come.
         order = self.one_of(*plain_history.FIELDS, *["ask"] * 3, *["grant"] * 2)
         fields = self.fields(order)
@@ -115,5 +121,12 @@ class Chance:
             fields |= self.span()
         if "list" in fields:
             fields["list"] = fields["list"].format(fields.get("vendor", "1209"))
+        if order != "import" and self.one_of(True, False, False):
+            fields["at"] = self.time()
         # Ann, who is the curator, comes twice as often as each of the others.
         return request(self.one_of("ann", "ann", "bob", "cora"), f"k{self.dice.randint(0, 999)}", order, **fields)
+
+    def again(self, sent):
+        """Returns one of these requests, at times with another time, which is no part of it."""
+        other = self.one_of(*sent)
+        return other | {"at": self.time()} if other["order"] != "import" and self.one_of(True, False) else other

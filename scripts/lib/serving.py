@@ -136,9 +136,15 @@ def post(caller, key, body, target="/commands"):
 
 
 def command(request):
-    """Returns the message of a request line: caller and key are fields of its head."""
-    order = {name: value for name, value in request.items() if name not in ("caller", "key")}
-    return post(request["caller"], request["key"], json.dumps(order, separators=(",", ":")).encode())
+    """Returns the message of a request: caller, key and time are fields of its head, and a list is the body of an import."""
+    told = {"registry_caller": request["caller"], "registry_key": request["key"]}
+    if request.get("at"):
+        told["registry_time"] = request["at"]
+    if request["order"] == "import":
+        vendor = [request["vendor"]] if "vendor" in request else []
+        return message("POST", "/".join(["/imports", request["org"], *vendor]), request["list"].encode(), **told)
+    order = {name: value for name, value in request.items() if name not in ("caller", "key", "at")}
+    return message("POST", "/commands", json.dumps(order, separators=(",", ":")).encode(), **told)
 
 
 def connected(port):
@@ -162,10 +168,11 @@ def exchange(port, sent, last=False):
         return read_to_end(connection)
 
 
-def response(body, status=200, kind=JSON, allow=None):
+def response(body, status=200, kind=JSON, allow=None, digest=None):
     """Returns the bytes of a response."""
     allowed = f"allow: {allow}\r\n" if allow else ""
-    head = f"HTTP/1.1 {status} {PHRASES[status]}\r\ncontent-type: {kind}\r\ncontent-length: {len(body)}\r\n{allowed}connection: close\r\n\r\n"
+    continued = f"registry-digest: {digest}\r\n" if digest else ""
+    head = f"HTTP/1.1 {status} {PHRASES[status]}\r\ncontent-type: {kind}\r\ncontent-length: {len(body)}\r\n{allowed}{continued}connection: close\r\n\r\n"
     return head.encode() + body
 
 

@@ -26,6 +26,10 @@ BEFORE = f"""\
 """
 
 
+# The time of each order, so that what is shown is the same on each day; where the browser is, it is the next day already.
+TIME, DAY = "2026-11-28T20:34:13Z", "29 Nov 2026"
+
+
 def sent_by_proxy(status, wait=None):
     """Returns the whole response of a refusal by the proxy itself, which passed nothing on."""
     _, body = by_proxy(status)
@@ -37,7 +41,7 @@ class Relay:
     """Passes connections on to a server. `losses` says what becomes of the next responses to orders: a number of bytes
     after which one is cut, other bytes in its place, or a function that is called before it is dropped. `tries` has the
     key, the body and the response of each order, `callers` the caller of each, and `waiting` counts those that have no
-    response yet. `reads` has the responses to the next questions for a path in place of those of the server."""
+    response yet. Each order gets a time that is always the same. `reads` has the responses to the next questions for a path in place of those of the server."""
 
     def __init__(self, server_port):
         self.server_port, self.losses, self.tries, self.callers, self.waiting = server_port, [], [], [], 0
@@ -60,7 +64,7 @@ class Relay:
             self.waiting += is_order
             got = b""
             with contextlib.suppress(OSError), socket.create_connection((HOST, self.server_port)) as peer:
-                peer.sendall(head + b"\r\n\r\n" + body)
+                peer.sendall((timed(head) if is_order else head) + b"\r\n\r\n" + body)
                 got = b"".join(iter(lambda: peer.recv(1 << 20), b""))
             self.waiting -= is_order
             if is_order:
@@ -78,6 +82,12 @@ class Relay:
         if isinstance(loss, bytes):
             return loss
         return got if loss is None else got[:loss]
+
+
+def timed(head):
+    """Returns the head of an order with the time of all orders."""
+    lines = [it for it in head.split(b"\r\n") if not it.lower().startswith(b"registry-time:")]
+    return b"\r\n".join([*lines, f"registry-time: {TIME}".encode()])
 
 
 def whole_message(connection):
@@ -145,7 +155,8 @@ class Stage:
     def orders(self, caller, key, order):
         """Gives an order as somebody does who does not use this page."""
         body = json.dumps(order)
-        head = f"POST /commands HTTP/1.1\r\nregistry-caller: {caller}\r\nregistry-key: {key}\r\ncontent-length: {len(body)}\r\n\r\n"
+        named = {"registry-caller": caller, "registry-key": key, "registry-time": TIME, "content-length": len(body)}
+        head = "POST /commands HTTP/1.1\r\n" + "".join(f"{name}: {value}\r\n" for name, value in named.items()) + "\r\n"
         with socket.create_connection((HOST, self.port)) as peer:
             peer.sendall(f"{head}{body}".encode())
             got = b"".join(iter(lambda: peer.recv(65536), b""))

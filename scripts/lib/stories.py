@@ -5,7 +5,7 @@ import json
 import os
 import subprocess
 
-from lib.upstreams import Upstream
+from lib.upstreams import Upstream, head_of
 from lib.usbreg import CONTRIB, content, same, write
 
 FOUNDING = b'{"curators":["cora"],"fixed":[],"licences":["MIT"],"name":"Shared products","vendor":"1209"}\n'
@@ -48,6 +48,8 @@ class Registry(Upstream):
         self.lines = []
 
     def answer(self, path):
+        if path == "/head" and self.lines:
+            return [head_of([FOUNDING, *self.lines[0]])]
         what = path.removeprefix("/history/")
         return self.lines and [FOUNDING if what == "founding" else b"".join(self.lines[0][int(what) :][:1000])]
 
@@ -96,7 +98,9 @@ def goes_on(grown, whole):
     same("the files of a record that grew", grown.files(), whole.files())
     times = {it: os.stat(f"{grown.path}/{it}").st_mtime_ns for it in (*grown.files(), "state")}
     same("nothing new", (grown.publish(LINES), {it: os.stat(f"{grown.path}/{it}").st_mtime_ns for it in times} == times), (0, True))
-    for number, (what, lines) in enumerate((("another last line", [*LINES[:-1], LINES[0]]), ("fewer requests", LINES[:6]), ("all again", LINES))):
+    first = [LINES[0].replace(b"Acme", b"Other"), *LINES[1:]]
+    others = ("another last line", [*LINES[:-1], LINES[0]]), ("fewer requests", LINES[:6]), ("all again", LINES), ("another first line", first), ("the first one again", LINES)
+    for number, (what, lines) in enumerate(others):
         anew = Folder(f"{grown.path}-{number}", grown.registry)
         same(what, (grown.publish(lines), anew.publish(lines), grown.files()), (0, 0, anew.files()))
     write(f"{grown.path}/orgs/acme", "")

@@ -1,6 +1,7 @@
 """Registries that give something else than they should: what contrib/follow and contrib/publish-list get of them must change
 no file, fill no disk, and end soon, with a word about the cause."""
 
+import hashlib
 import http.server
 import os
 import subprocess
@@ -57,11 +58,20 @@ def endless(part, begun=b""):
         yield part
 
 
+def head_of(lines):
+    """Returns the head of a record that has these lines."""
+    digest = ""
+    for line in lines:
+        digest = hashlib.sha256(digest.encode() + line).hexdigest()
+    return f'{{"digest":"{digest}","requests":{len(lines) - 1}}}\n'.encode()
+
+
 class Record:
     """The lines of a record, and what a registry with this record answers."""
 
     def __init__(self, lines):
         self.founding, *self.lines = lines
+        self.head = head_of(lines)
 
     def after(self, count):
         return b"".join(self.lines[count:][:1000])
@@ -69,16 +79,17 @@ class Record:
     def answer(self, path):
         """Returns what an honest registry gives."""
         what = path.removeprefix("/history/")
-        return [self.founding if what == "founding" else self.after(int(what))]
+        return [self.head if what == "/head" else self.founding if what == "founding" else self.after(int(what))]
 
     def dishonest(self):
         """Yields what a registry does, what is said of it, and a function from a path to its answer."""
-        def given(answer):
-            return lambda path: [self.founding] if path.endswith("/founding") else answer(int(path.rsplit("/", 1)[1]))
+        def given(answer, head=self.head):
+            return lambda path: [head] if path == "/head" else [self.founding] if path.endswith("/founding") else answer(int(path.rsplit("/", 1)[1]))
 
         after, lines = self.after, self.lines
+        changed = [lines[0].replace(b"o1", b"p1"), *lines[1:]]
         yield "ignores the number", "another history", given(lambda _: [after(0)])
-        yield "begins anew after the last line", "already", given(lambda n: [lines[n], after(0)])
+        yield "begins anew after the last line", "another digest", given(lambda n: [lines[n], after(0)])
         yield "gives a line twice", "already", given(lambda n: [lines[n], lines[n + 1], lines[n + 1]])
         yield "gives blank lines", "no requests", given(lambda n: [after(n).replace(b"\n", b"\n\n")])
         yield "gives a founding again", "no requests", given(lambda n: [lines[n], self.founding, after(n + 1)])
@@ -89,7 +100,12 @@ class Record:
         yield "gives lines without end", "too long", given(lambda n: endless(lines[0] * 100, after(n)))
         yield "gives too many lines", "too many", given(lambda n: [lines[n], lines[0] * 1001])
         yield "has an older state", "older state", given(lambda n: [b"".join(lines[n : HAS - 2])])
-        yield "is another one", "founded otherwise", lambda path: [b"{}\n"] if path.endswith("/founding") else []
+        yield "has fewer requests by its head", "older state", given(lambda n: [after(n)], head_of([self.founding, *lines[: HAS - 2]]))
+        yield "has another history with the same lines here", "another digest", given(lambda n: [after(n)], head_of([self.founding, *changed]))
+        yield "has that, and nothing new", "another digest", given(lambda n: [b"".join(lines[n : HAS - 1])], head_of([self.founding, *changed[: HAS - 1]]))
+        yield "has no head", "no head", given(lambda n: [after(n)], b"{}\n")
+        yield "has a page of HTML for its head", "no head", given(lambda n: [after(n)], b"<html>\n")
+        yield "is another one", "founded otherwise", lambda path: [head_of([b"{}\n"])] if path == "/head" else [b"{}\n"] if path.endswith("/founding") else []
         yield "has another history", "another history", given(lambda n: [after(n).replace(b"o2", b"p2")])
         yield "is no registry", "cannot be fetched", lambda _: None
 

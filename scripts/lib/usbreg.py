@@ -145,6 +145,12 @@ def seal(store):
             file.write(b"".join(it[:-SUM_SIZE] + sum_of(it) for it in pages))
 
 
+def kept_rows(rows):
+    """Returns statements that put accepted requests into a store that has none, with a digest each. It is none of a record."""
+    rows = list(rows)
+    return ("INSERT INTO kept VALUES (?, ?, ?, ?)", rows), ("INSERT INTO digests4 VALUES (?, NULL, ?)", ((it, f"{it:064x}") for it in range(1, len(rows) + 1)))
+
+
 def put_rows(store, statements):
     """Puts rows into a closed store, those that are given with each statement, and returns its path."""
     with opened(store) as connection:
