@@ -6,8 +6,8 @@ The repository has a page for each row of cases/moving.tsv. The report has to sa
 becomes of each number is compared with the store, where no number that a page or a folder names is free. The replies are those that the
 script for the move said. The pages that are written of the record are those of before, but for what the report says. Written with names,
 and moved in again, they make the same rows and slugs. After mending, over the store that is there, what is new is taken; the pages that
-are written over the checkout keep their bytes where they say the same. The history in Git, a commit for each request, and the requests
-of a branch are those that scripts/lib/both_ways.py makes.
+are written over the checkout keep their bytes where they say the same. The history in Git, whose times the record has, a commit for each
+request, at its time, and the requests of a branch are those that scripts/lib/both_ways.py makes.
 
 Usage: scripts/move_pid_codes.py [PROGRAM [ENTRIES]] [--all], by default the one that `make` builds, and 200. With --all both ways go for
 a thousand commits, with kills. If Debian's python3-yaml or git is not installed it says so and skips all. The exit status is 0 if all of
@@ -15,11 +15,12 @@ this holds."""
 
 import json
 import os
+import re
 import shutil
 import sys
 import time
 
-from lib.both_ways import Repository, commit_each_request, give_histories, say_a_branch
+from lib.both_ways import CORA, Repository, carry_times, commit_each_request, give_histories, history, say_a_branch
 from lib.made_up_pages import HOME, VENDOR, MadeUp
 from lib.moving import PYTHON, Mover, compare_fields, compare_report, pages_in
 from lib.usbreg import EXAMPLES, TOP, apply, content, copy, done, folder, found, opened, program, run, same, write, write_requests
@@ -50,6 +51,8 @@ def move_in(mover, made):
     states = mover.states("numbers.db")
     same("the states of numbers", {it: states.get(it) for it in made.states}, made.states)
     same("numbers that are not free besides", {it[1] for it in set(states) - set(made.states)}, set(range(1, 0x11)))
+    listed = done([mover.usbreg, "export", copy(mover.path("numbers.db"), mover.path("looked.db"))]).decode()
+    same("characters of the list that control a terminal", re.findall("[\x80-\x9f\u2028-\u202e\u2066-\u2069]", listed), [])
     # taken again, each request gets its first reply, and nothing changes
     before = mover.rows("numbers.db")
     mover.runs(mover.block(MOVE).split("\n", 2)[2])
@@ -128,19 +131,24 @@ def change(path, *changes):
     write(path, text)
 
 
-def mend_and_take(mover, made):
+def mend_and_take(mover, made, repository):
     """Mends pages and writes new ones, while others change the registry, and takes what is new over the store that is there."""
     page = {row.case: f"{mover.path('pages')}/{path}" for path, row in made.rows.items()}
     change(page["a colon"], ("Board: x", '"Board: x"'))
     change(page["Latin-1"], ("Z\xe4hler", "Meter\nlicense: MIT\nsource: https://example.org/l"))
     change(page["no owner"], ("layout: pid\n", "layout: pid\nowner: Works0\n"))
     change(page["no licence"], ("layout: pid\n", "layout: pid\nlicense: MIT\n"))
-    change(page["a number"], ("1.10", "1.11"))
+    # what is written below the fields makes no request
+    change(page["text below the fields"], ("Text ", "Words "))
     change(page["a word that means yes"], ("title: yes", "title: yes, changed"))
     change(page["a date"], ("owner: Acme_Labs", "owner: Works0"))
     change(page["no site of an organisation"], ("title: None", "title: None\nsite: https://none.example/"))
     made.write(f"{VENDOR}/d0d0/index.md", f"---\nlayout: pid\ntitle: New\nowner: Newcomers\nlicense: CERN-OHL-W-2.0\nsource: {HOME}/new\n---\n".encode())
     made.write("org/Newcomers/index.md", b"---\nlayout: org\ntitle: New\nsite: https://new.example/\n---\n")
+    repository.put_rest("Mend pages", CORA)
+    change(page["a number"], ("1.10", "1.11"))
+    repository.uncommitted.append(made.path("a number"))
+    made.paths |= {"d0d0": f"{VENDOR}/d0d0/index.md", "newcomers": "org/Newcomers/index.md"}
     keepers = {name: keeper for _, keeper, name in mover.table("moved/names.tsv")}
     taken = {name: made.number(row) for name, row in ((it, it) for it in ("a sign within a word", "a word that means yes"))}
     terms = {"licence": "MIT", "site": "https://example.org/", "source": "https://example.org/"}
@@ -152,8 +160,9 @@ def mend_and_take(mover, made):
     lines = {page: what for page, _, what, _ in mover.table("new/report.tsv")}
     said = {name: lines.get(os.path.relpath(page[name], mover.path("pages"))) for name in (*taken, "a date")}
     same("what is said of pages that the registry has otherwise", [said[it][:24] for it in said], ["the registry says otherw", "it has changed, and so h", "its number belongs to ac"])
-    rest = mover.block(NEW, 1)
-    mover.runs(rest)
+    before = len(history(mover, "numbers.db").splitlines())
+    mover.runs(mover.block(NEW, 1))
+    repository.compare_times(made, "".join(history(mover, "numbers.db").splitlines(True)[before:]))
     states = mover.states("numbers.db")
     made.states |= {(VENDOR, int(made.number(it), 16)): "held" for it in ("a colon", "Latin-1", "no owner")} | {(VENDOR, 0xD0D0): "held"}
     same("the states after mending", {it: states.get(it) for it in made.states}, made.states)
@@ -162,7 +171,7 @@ def mend_and_take(mover, made):
 
 def write_over(mover, made, repository):
     """Writes the pages over the checkout: those that say what the registry says keep their bytes, and nothing else is touched."""
-    repository.commit("Mend pages")
+    repository.commit("Mend one more page")
     mover.runs(mover.block(OUT, 1))
     changed = set(repository.git("diff", "--name-only", "-z").strip("\0").split("\0"))
     wanted = {made.path(it) for it in ("a sign within a word", "a word that means yes", "a date", "a colon in the title of an organisation")}
@@ -220,10 +229,12 @@ def main():
         give_histories(repository, made)
         counts = move_in(mover, made)
         repository.compare(made)
+        repository.compare_times(made, history(mover, "numbers.db"))
+        carry_times(mover)
         ask_for_any(mover, made)
         differing = move_out_and_in(mover, made, counts)
         take_with_tables(mover, made)
-        mend_and_take(mover, made)
+        mend_and_take(mover, made, repository)
         write_over(mover, made, repository)
         commits = commit_each_request(mover, repository, 1000 if "--all" in sys.argv else 20)
         said = say_a_branch(mover, made, repository)

@@ -4,56 +4,73 @@ and the requests that a branch means."""
 import json
 import os
 import random
-import re
 import subprocess
 import sys
+import time
 
 from lib.made_up_pages import VENDOR
+from lib.seen_by_sqlite import same as same_lines
 from lib.stopping import killed
 from lib.usbreg import TOP, apply, content, done, run, same, write, write_requests
 
 USERS = f"{TOP}/scripts/users"
 GITHUB = ("GitHub", "noreply@github.com")
 ANN, BOB, EVE, CORA, DAN = (("Ann", "ann@a.example"), ("Bob", "bob@b.example"), ("Eve", "eve@e.example"), ("Cora", "cora@c.example"), ("Dan Dell", "dan@d.example"))
-DAILY = "Every day"
+DAILY, TAKE, MOVE = "Every day", "What would be taken", "Take it"
+UTC = "%Y-%m-%dT%H:%M:%SZ"
 # The orders that change what no page says.
 ON_NO_PAGE = ("ask", "hand-over")
+# Which merge of a page an order has its time of: the first one, or the last one, which changed the page. Others have none.
+TIMED = {"enrol": 0, "ask": 0, "grant": 0, "amend": -1, "amend-org": -1, "revoke": -1}
+# Times of requests that Git has otherwise, and what Git may have as the time of a commit, with that of a request.
+ODD_TIMES = {"2024-02-31T23:00:00Z": "2024-03-02T23:00:00Z", "0000-01-01T00:00:00Z": "1970-01-01T00:00:00Z"}
+ODD_SECONDS = {"": "", "-5": "", "0": "1970-01-01T00:00:00Z", "253402300799": "9999-12-31T23:59:59Z", "253402300800": "", "9" * 30: ""}
 
 
 class Repository:
     """A Git repository in the folder of a mover."""
 
     def __init__(self, mover, name):
-        self.mover, self.top, self.times, self.merges = mover, mover.path(name), 1_500_000_000, []
+        self.mover, self.top, self.times, self.merges, self.uncommitted = mover, mover.path(name), 1_500_000_000, [], []
 
-    def git(self, *words, author=CORA, committer=None):
+    def git(self, *words, author=CORA, committer=None, zone="+0000"):
         committer = committer or author
         self.times += 60
         people = {"AUTHOR": author, "COMMITTER": committer}
         env = {f"GIT_{who}_{what}": of[at] for who, of in people.items() for at, what in enumerate(("NAME", "EMAIL"))}
-        env |= {f"GIT_{who}_DATE": f"{self.times} +0000" for who in people}
+        # what is merged was written an hour before
+        env |= {"GIT_AUTHOR_DATE": f"{self.times - 3600} {zone}", "GIT_COMMITTER_DATE": f"{self.times} {zone}", "TZ": "UTC0"}
         ran = subprocess.run(["git", "-C", self.top, *words], capture_output=True, check=False, env={**self.mover.env, **env})
         same(f"git {' '.join(words)}: {ran.stderr!r}", ran.returncode, 0)
         return ran.stdout.decode()
 
-    def commit(self, text, *paths, author=ANN, committer=None):
+    def commit(self, text, *paths, author=ANN, committer=None, zone="+0000"):
         """Commits some paths, by default all, and returns the commit."""
         self.git("add", "-A", "--", *(paths or ["."]))
-        self.git("commit", "-q", "-m", text, author=author, committer=committer)
+        self.git("commit", "-q", "-m", text, author=author, committer=committer, zone=zone)
         return self.git("rev-parse", "HEAD").strip()
 
-    def put(self, paths, author, merger, way):
+    def put(self, paths, author, merger, way, zone="+0000"):
         """Commits pages, and merges them as a merge, a squash by GitHub, or directly. Keeps what a move has to say of them."""
         if way == "merge":
             self.git("checkout", "-q", "-b", "change")
             self.commit("Add pages", *paths, author=author)
             self.git("checkout", "-q", "main")
-            self.git("merge", "-q", "--no-ff", "-m", "Merge pull request", "change", author=merger, committer=GITHUB)
+            self.git("merge", "-q", "--no-ff", "-m", "Merge pull request", "change", author=merger, committer=GITHUB, zone=zone)
             self.git("branch", "-q", "-d", "change")
         else:
-            self.commit("Add pages", *paths, author=author, committer=GITHUB if way == "squash" else merger)
-        commit = self.git("rev-parse", "HEAD").strip()
-        self.merges.append((set(paths), commit, author, None if way == "squash" else merger))
+            self.commit("Add pages", *paths, author=author, committer=GITHUB if way == "squash" else merger, zone=zone)
+        self.keep(paths, author, None if way == "squash" else merger)
+
+    def put_rest(self, text, author):
+        """Commits all that is not committed."""
+        self.commit(text, author=author)
+        self.keep(self.git("show", "--no-renames", "--name-only", "--format=", "-z").split("\0"), author, author)
+
+    def keep(self, paths, author, merger):
+        """Keeps what a move has to say of the pages in the last commit."""
+        commit, merged = self.git("log", "-1", "--format=%H %cd", f"--date=format-local:{UTC}").split()
+        self.merges.append((set(paths), commit, merged, author, merger))
 
     def compare(self, made):
         """Compares the requests of a move with the history: their order, who grants, who keeps, and the commit in each key."""
@@ -62,21 +79,44 @@ class Repository:
         places, names = [], {name: "curator-" + name.lower().replace(" ", "-") for name, _ in (CORA, DAN)}
         for ask, grant in zip(granted, granted[1:]):
             if ask["order"] == "ask":
-                place, commit, _, merger = self.merge_of(made.paths[ask["number"]])
+                place, commit, _, _, merger = self.merge_of(made.paths[ask["number"]])
                 places.append(place)
                 same(f"who grants {ask['number']}", grant["caller"], names[merger[0]] if merger else "curator-1")
                 same(f"the commit of {ask['number']}", commit[:10] in ask["key"] and commit[:10] in grant["key"], True)
         same("the order of the merges", (len(set(places)) > 3, places), (True, sorted(places)))
-        for name, slug in made.slugs.items():
-            if os.path.exists(f"{self.top}/org/{name}/index.md") and ("enrol", slug) in keys and name != "BadYaml":
-                _, commit, author, _ = self.merge_of(f"org/{name}/index.md")
+        for slug in made.slugs.values():
+            if made.paths[slug].startswith("org/") and ("enrol", slug) in keys:
+                _, commit, _, author, _ = self.merge_of(made.paths[slug])
                 enrolled = keys["enrol", slug]
                 same(f"who enrols {slug}", (enrolled["caller"], commit[:10] in enrolled["key"]), (author[0].lower(), True))
-        table = {path: (commit, merged) for path, commit, merged, *_ in self.mover.table("moved/history.tsv")}
-        same("the times in the table", all(re.fullmatch(r"2017-.*", merged) for _, merged in table.values()), True)
+        table = [(path, merged) for path, _, merged, *_ in self.mover.table("moved/history.tsv")]
+        same_lines("the times in the table", lines_of(table), lines_of((path, self.merge_of(path)[2]) for path, _ in table))
 
     def merge_of(self, path):
         return next((place, *rest) for place, (paths, *rest) in enumerate(self.merges) if path in paths)
+
+    def compare_times(self, made, record):
+        """Compares the times of the requests in lines of a record with those of the merges."""
+        told = timed(record)
+        wanted = ((order, it, self.time_of(order, made.paths.get(it))) for order, it, _ in told)
+        same_lines("the times of requests", lines_of(told), lines_of(wanted))
+
+    def time_of(self, order, page):
+        """Returns the time that a request about a page has, or None: what a page says that is not committed so has none."""
+        merged = [at for paths, _, at, *_ in self.merges if page in paths]
+        which = TIMED.get(order)
+        return None if not merged or which is None or (which and page in self.uncommitted) else merged[which]
+
+
+def timed(record):
+    """Returns the order of each request in lines of a record, its number or organisation, and its time."""
+    requests = [json.loads(it) for it in record.splitlines()]
+    numbers = [it["done"].split()[1] if it["order"] == "grant" else it.get("number", it.get("org")) for it in requests]
+    return [(it["order"], number, it.get("at")) for it, number in zip(requests, numbers)]
+
+
+def lines_of(rows):
+    return [" ".join(map(str, it)) for it in rows]
 
 
 def give_histories(repository, made):
@@ -88,28 +128,53 @@ def give_histories(repository, made):
     first = made.path("upper case")
     lower = first.lower()
     numbers.remove(first)
+    withdrawn = made.path("withdrawn")
+    numbers.remove(withdrawn)
+    as_written = content(f"{repository.top}/{withdrawn}")
+    made.write(withdrawn, as_written.replace(b"withdrawn: by its maker\n", b""))
     os.rename(f"{repository.top}/{os.path.dirname(first)}", f"{repository.top}/{os.path.dirname(lower)}")
     made.write(f"{VENDOR}/d0e0/index.md", b"---\nlayout: pid\ntitle: Gone\nowner: acme-labs\n---\n")
     size = len(numbers) // 3
-    repository.put([*orgs[: len(orgs) // 2], lower, f"{VENDOR}/d0e0/index.md"], ANN, CORA, "merge")
-    repository.put(orgs[len(orgs) // 2 :], BOB, DAN, "merge")
-    repository.put(numbers[:size], EVE, None, "squash")
+    repository.put([*orgs[: len(orgs) // 2], lower, withdrawn, f"{VENDOR}/d0e0/index.md"], ANN, CORA, "merge")
+    repository.put(orgs[len(orgs) // 2 :], BOB, DAN, "merge", "-0800")
+    repository.put(numbers[:size], EVE, None, "squash", "+0530")
     repository.put(numbers[size : 2 * size], ANN, CORA, "merge")
     os.rename(f"{repository.top}/{os.path.dirname(lower)}", f"{repository.top}/{os.path.dirname(first)}")
     repository.git("rm", "-q", f"{VENDOR}/d0e0/index.md")
-    repository.put(numbers[2 * size :], DAN, DAN, "direct")
-    repository.commit("Add the rest, and write a folder otherwise", author=DAN)
+    made.write(withdrawn, as_written)
+    repository.put([*numbers[2 * size :], withdrawn], DAN, DAN, "direct")
+    repository.put_rest("Add the rest, and write a folder otherwise", DAN)
     repository.merges[0][0].add(first)
     gone = repository.git("log", "-1", "--diff-filter=D", "--format=%H", "--", f"{VENDOR}/d0e0/index.md")[:10]
     made.told[f"{VENDOR}/d0e0/index.md"] = [("reserved", f"its page was removed, by the commit {gone}")]
     made.states[VENDOR, 0xD0E0] = "reserved"
     made.paths = {made.numbers[row.case]: path for path, row in made.rows.items() if row.case} | {os.path.basename(os.path.dirname(it)).lower(): it for it in numbers}
+    made.paths |= {slug: made.page_of(name) for name, slug in made.slugs.items()}
+
+
+def history(mover, store):
+    """Returns the requests in the record of a store, as text."""
+    return done([mover.usbreg, "history", mover.path(store), "--after", "0"]).decode()
+
+
+def carry_times(mover):
+    """Writes a commit for each request of the record into a repository without pages, and moves these pages in: the organisations and
+    the numbers come in the same order, at the same times."""
+    repository = Repository(mover, "back")
+    os.mkdir(repository.top)
+    repository.git("init", "-q", "-b", "main")
+    repository.git("commit", "-q", "--allow-empty", "-m", "Begin")
+    mover.runs("usbreg history numbers.db > record.jsonl; scripts/users/commit_pages.py record.jsonl back moved")
+    mover.runs(mover.block(TAKE), pages="back", moved="carried")
+    mover.runs(mover.block(MOVE), moved="carried", numbers="carried")
+    kept, carried = (timed(history(mover, store)) for store in ("numbers.db", "carried.db"))
+    same_lines("the times after both ways", *(lines_of(it for it in rows if it[0] in ("enrol", "grant")) for rows in (carried, kept)))
 
 
 def commit_each_request(mover, repository, count):
     """Writes a commit for each request over a clone, also after kills, and compares the pages with those that are written at once.
     Returns how many there are."""
-    block = mover.block(DAILY)
+    block, began = mover.block(DAILY), time.strftime(UTC, time.gmtime())
     same("the first commit", mover.runs(block), "1 commits\n")
     before = int(mover.runs("git -C mirror rev-list --count HEAD"))
     requests, wanted = made_up_requests(mover, count)
@@ -129,20 +194,29 @@ def commit_each_request(mover, repository, count):
     same("the last run", (status, errors), (0, b""))
     same("the commits at the end", int(mover.runs("git -C mirror rev-list --count HEAD")) - before, wanted)
     same("what is not committed", mover.runs("git -C mirror status --porcelain"), "")
-    heads = mover.runs(f"git -C mirror log -{wanted} --reverse --format=%an:%s").splitlines()
-    replies = [json.loads(it) for it in content(mover.path("record.jsonl")).decode().splitlines()[1:]]
-    same("who made the commits", heads, [f"{it['caller']}:{it['done']}" for it in replies[-len(requests) :] if it["order"] not in ON_NO_PAGE])
+    said = mover.runs(f"git -C mirror log -{wanted} --reverse --format='%ad %an:%s' --date=format:{UTC}")
+    # one without a time has the time of a run
+    heads = [it if it < began else it.replace(it.split()[0], "None") for it in said.splitlines()]
+    lines = [json.loads(it) for it in history(mover, "numbers.db").splitlines()[-len(requests) :]]
+    same_lines("who made the commits, and when", heads, lines_of(head_of(it) for it in lines if it["order"] not in ON_NO_PAGE))
     compare_trees(mover)
     compare_callers(mover)
     same("a run with nothing new", run(words, env=mover.env)[1], b"0 commits\n")
     return wanted
 
 
-def compare_callers(mover):
-    """A caller whose request was made into a commit stays that caller in another move, and becomes no curator by it."""
-    sys.path.insert(0, USERS)
-    from page_history import History
+def head_of(line):
+    """Returns the time, and the caller and the reply, that the commit of a line of the record has to have."""
+    return ODD_TIMES.get(line.get("at"), line.get("at")), f"{line['caller']}:{line['done']}"
 
+
+def compare_callers(mover):
+    """A caller whose request was made into a commit stays that caller in another move, and becomes no curator by it. A commit may have
+    a time that no request has."""
+    sys.path.insert(0, USERS)
+    from page_history import History, time_of
+
+    same("the times of commits", {it: time_of(it) for it in ODD_SECONDS}, ODD_SECONDS)
     history = History(mover.path("mirror"), VENDOR)
     history.give_names([it for it in history.merges if it.startswith("org/")], set(), ["curator-1"], {})
     named = {it.address: (it.curator, it.keeper) for it in history.people.values()}
@@ -158,7 +232,7 @@ def compare_trees(mover):
 def made_up_requests(mover, count):
     """Returns requests about one organisation and its numbers, which are granted, amended, corrected, returned and revoked, and how
     many change a page."""
-    petitions = sum(json.loads(it)["order"] == "ask" for it in done([mover.usbreg, "history", mover.path("numbers.db"), "--after", "0"]).decode().splitlines())
+    petitions = sum(json.loads(it)["order"] == "ask" for it in history(mover, "numbers.db").splitlines())
     site = "https://daily.example/"
     requests = [{"caller": "daily", "key": "e", "order": "enrol", "org": "daily", "title": "Daily", "site": site}]
     terms = {"licence": "MIT", "site": site, "source": site}
@@ -180,6 +254,10 @@ def made_up_requests(mover, count):
         {"caller": "daily", "key": "h", "order": "hand-over", "org": "daily", "keeper": "weekly"},
         {"caller": "weekly", "key": "m", "order": "amend", "number": "e000", "title": "Lamp of every day", **terms},
     ]
+    for at, it in enumerate(requests):
+        # each seventh is handed in without a time
+        it |= {"at": time.strftime(UTC, time.gmtime(1_600_000_000 + 5000 * at))} if at % 7 != 6 else {}
+    requests[0]["at"], requests[2]["at"] = ODD_TIMES
     return requests, sum(it["order"] not in ON_NO_PAGE for it in requests)
 
 

@@ -90,6 +90,13 @@ class MadeUp:
         """Returns the path of the page of a row."""
         return next(path for path, row in self.rows.items() if row.case == case)
 
+    def page_of(self, name):
+        """Returns the path of the page of an organisation, or of the first one that names it as its owner."""
+        own = f"org/{name}/index.md"
+        if os.path.exists(f"{self.top}/{own}") and name != "BadYaml":
+            return own
+        return next(f"{it}/index.md" for it in sorted(self.kept, key=str.lower) if self.kept[it].get("owner") == name)
+
     def number(self, case):
         return self.numbers[case]
 

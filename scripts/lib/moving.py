@@ -51,6 +51,8 @@ class Mover:
         os.symlink(usbreg, f"{room}/bin/usbreg")
         os.symlink(f"{TOP}/scripts", f"{room}/scripts")
         self.env = {**os.environ, "PATH": f"{room}/bin:{os.environ['PATH']}", "USBREG": "usbreg", "GIT_CONFIG_GLOBAL": "/dev/null", "GIT_CONFIG_SYSTEM": "/dev/null"}
+        # a machine in another zone than UTC
+        self.env["TZ"] = "HERE-5:30"
 
     def runs(self, commands, status=0, said=(), **names):
         """Returns the output of commands, in which words are replaced by others. What they print besides has all that is `said`."""

@@ -7,8 +7,9 @@ that nobody else changes: what is not committed in it gets lost. MOVED is the fo
 USBREG names the program, which reads the links in these pages, by default `usbreg`. With --start a checkout that has no such commit yet
 gets one for all that is in the record, and from then on one for each request; without it, also for those.
 
-The caller of a request is the author of its commit, with an address at a host that does not exist. The commits come all at once or
-not at all: run it again after a stop. The exit status is 0 if the checkout says what the record says."""
+The caller of a request is the author of its commit, with an address at a host that does not exist, and its time that of the commit. If
+it has none, that is the time of the run. The commits come all at once or not at all: run it again after a stop. The exit status is 0 if
+the checkout says what the record says."""
 
 import calendar
 import glob
@@ -47,8 +48,12 @@ def requests_done(top):
 
 
 def seconds_of(line):
-    """Returns the time of a request, if its line has one, and else the time of now."""
-    return calendar.timegm(time.strptime(line["at"], "%Y-%m-%dT%H:%M:%SZ")) if "at" in line else int(time.time())
+    """Returns the time of a request, if its line has one, and else the time of now. A registry takes days that their months do not
+    have, which are counted on from the last one, and years before 1970, which Git does not."""
+    if not line.get("at"):
+        return int(time.time())
+    parts = [int(it) for it in re.findall(r"\d+", line["at"])]
+    return calendar.timegm(parts) if parts[0] >= 1970 else 0
 
 
 def data_of(data):

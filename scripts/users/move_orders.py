@@ -3,6 +3,12 @@
 import hashlib
 import json
 
+from page_history import Merge
+
+NOT_MERGED = Merge(0, "")
+# The orders that say what a page says now, and not how it came.
+OF_CHANGES = ("amend", "amend-org", "revoke")
+
 
 def digits_of(content):
     """Returns digits of what a request says, with which its key ends."""
@@ -16,16 +22,18 @@ def key_of(kind, name, content, commit=""):
 
 
 class Orders:
-    """Makes requests with the replies to expect, after `petitions` that there are already. `commits` has the commit of each page, and
+    """Makes requests with the replies to expect, after `petitions` that there are already. `merges` has the merge of each page, and
     `mergers` the curator who merged it, where Git knows them."""
 
-    def __init__(self, curator, petitions=0, commits=None, mergers=None):
-        self.curator, self.petitions, self.commits, self.mergers = curator, petitions, commits or {}, mergers or {}
+    def __init__(self, curator, petitions=0, merges=None, mergers=None):
+        self.curator, self.petitions, self.merges, self.mergers = curator, petitions, merges or {}, mergers or {}
 
     def request(self, caller, kind, name, order, reply, page="", turn=0):
-        """Returns a request and its reply. The same order in another turn has another key."""
-        key = key_of(kind, name, [order, turn] if turn else order, self.commits.get(page, self.commits.get("", "")))
-        return {"caller": caller, "key": key, **order}, reply
+        """Returns a request and its reply. The same order in another turn has another key, and with another time the same one."""
+        merge = self.merges.get(page) or self.merges.get("", NOT_MERGED)
+        key = key_of(kind, name, [order, turn] if turn else order, merge.commit)
+        at = merge.changed if order["order"] in OF_CHANGES else merge.time
+        return {"caller": caller, "key": key, **order} | ({"at": at} if at else {}), reply
 
     def enrol(self, org):
         order = {"order": "enrol", "org": org.slug, "title": org.title, "site": org.site}

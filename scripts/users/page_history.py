@@ -1,9 +1,11 @@
-"""What Git knows of the pages of a checkout: in which order they were merged, who merged and who wrote each, and which were removed."""
+"""What Git knows of the pages of a checkout: in which order and when they were merged, who merged and who wrote each, and which were
+removed."""
 
 import dataclasses
 import re
 import subprocess
 import sys
+import time
 
 from pid_codes import SLUG, cut, letters_of
 
@@ -12,6 +14,8 @@ from pid_codes import SLUG, cut, letters_of
 HOST = "registry.invalid"
 MACHINES = ("noreply@github.com", f"usbreg@{HOST}")
 MOST_CURATORS = 64
+# The first second that has no time in a request: its year has five digits.
+TOO_LATE = 253_402_300_800
 
 
 @dataclasses.dataclass
@@ -26,14 +30,15 @@ class Person:
 
 @dataclasses.dataclass
 class Merge:
-    """How a page came: its place in the order of the merges, the commit, its time, and the addresses of who merged and who wrote it,
-    if they are known."""
+    """How a page came: its place in the order of the merges, the commit, its time, the addresses of who merged and who wrote it, and
+    when it was changed last. What is not known is empty. The times are those that requests have."""
 
     place: int
     commit: str
-    time: str
+    time: str = ""
     merger: str = ""
     author: str = ""
+    changed: str = ""
 
 
 def git(top, *words):
@@ -50,6 +55,12 @@ def has_history(top):
     return inside == "\n" and shallow == "false\n" and git(top, "rev-parse", "--verify", "-q", "HEAD") is not None
 
 
+def time_of(seconds):
+    """Returns the time of a commit as requests have it, in UTC, or nothing if no request can have it."""
+    known = re.fullmatch(r"\d{1,12}", seconds) and int(seconds) < TOO_LATE
+    return time.strftime("%Y-%m-%dT%H:%M:%SZ", time.gmtime(int(seconds))) if known else ""
+
+
 class History:
     """The merges of a checkout by the path of the page, the people by address, and the numbers whose pages were removed, with the path
     and the commit of each."""
@@ -62,10 +73,11 @@ class History:
             self.follow(place, head, changes)
         for path, merge in self.merges.items():
             merge.author = authors.get(path, "")
+        self.forget_changes()
 
     def commits(self, *words):
         """Yields the head of each commit, oldest first, and the fields that Git prints of its files."""
-        form = "--format=%x01%H%x02%P%x02%cI%x02%aN%x02%aE%x02%cN%x02%cE"
+        form = "--format=%x01%H%x02%P%x02%ct%x02%aN%x02%aE%x02%cN%x02%cE"
         said = git(self.top, "log", "--reverse", "--no-renames", "-z", form, *words, "--", self.vendor, "org") or ""
         for commit in said.split("\x01")[1:]:
             head, _, files = commit.partition("\0")
@@ -87,9 +99,9 @@ class History:
 
     def follow(self, place, head, changes):
         """Follows the pages of a merge. One that moves to a folder in the other case stays the page that it was."""
-        commit, parents, time, author, author_at, committer, committer_at = head
+        commit, parents, seconds, author, author_at, committer, committer_at = head
         merger = (author, author_at) if " " in parents else (committer, committer_at)
-        here = Merge(place, commit, time, "" if merger[1].lower() in MACHINES else self.person(*merger))
+        here = Merge(place, commit, time_of(seconds), "" if merger[1].lower() in MACHINES else self.person(*merger))
         pairs = list(zip(changes[::2], changes[1::2]))
         gone = {self.number(path): self.merges.pop(path, None) for status, path in pairs if status == "D" and self.is_page(path)}
         for status, path in pairs:
@@ -97,9 +109,17 @@ class History:
                 number = self.number(path)
                 self.merges[path] = (number and gone.pop(number, None)) or dataclasses.replace(here)
                 self.removed.pop(number, None)
+            if status != "D" and path in self.merges:
+                self.merges[path].changed = here.time
         for status, path in pairs:
             if status == "D" and self.number(path) in gone and self.number(path):
                 self.removed[self.number(path)] = (path, commit)
+
+    def forget_changes(self):
+        """Forgets when the pages were changed that the checkout has otherwise than its last commit: what they say is in no commit."""
+        said = git(self.top, "diff", "--name-only", "-z", "HEAD", "--", self.vendor, "org") or ""
+        for path in set(said.split("\0")) & set(self.merges):
+            self.merges[path].changed = ""
 
     def is_page(self, path):
         return re.fullmatch(f"({self.vendor}|org)/[^/]+/index.md", path) is not None

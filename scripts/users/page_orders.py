@@ -25,7 +25,7 @@ from beside_a_registry import Beside
 from links import Links, line_of
 from move_orders import Orders
 from move_report import Report
-from page_history import git
+from page_history import Merge, git
 from page_text import write, yaml
 from pid_codes import ALIASES, Licences
 from read_pid_codes import Repository
@@ -129,8 +129,8 @@ class Branch:
         amended = list(sorted_out.amended)
         for subject, it in moved:
             sorted_out.sort_known(subject, it, self.registry.entries[subject], self.registry.entries[subject]["org"])
-        # what has no page comes from the same commit
-        orders = Orders(self.given.curator, 0, {path: self.difference.commit for path in (*self.difference.paths, "")})
+        # what has no page comes from the same commit, which is not merged: its requests have no time
+        orders = Orders(self.given.curator, 0, dict.fromkeys((*self.difference.paths, ""), Merge(0, self.difference.commit)))
         made = [orders.add_licence(it) for it in sorted({it.licence for it in sorted_out.asked + sorted_out.amended} - self.registry.licences)]
         made += [orders.enrol(it) for it in sorted_out.enrolled] + [orders.amend_org(it, sorted_out.keeper(it)) for it in sorted_out.amended_orgs]
         made += [orders.amend(it, sorted_out.keeper(now.orgs[it.owner])) for it in amended]

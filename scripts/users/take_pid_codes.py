@@ -204,10 +204,11 @@ def main():
     beside = Beside(there, registry)
     beside.sort()
     reserved = there.settle(registry.vendors | {vendor for vendor, _ in given.also}, registry.entries)
-    commits = {path: it.commit for path, it in history.merges.items()} if history else {}
+    merges = history.merges if history else {}
     # the curators of a registry that is there are those of its founding
-    mergers = {path: history.people[it.merger].curator for path, it in history.merges.items() if it.merger} if history and not given.record else {}
-    move = Move(given, beside, history, Orders(given.curator[0], len(registry.asked), commits, mergers), [it for it in reserved if not registry.is_reserved(it)])
+    mergers = {path: history.people[it.merger].curator for path, it in merges.items() if it.merger} if not given.record else {}
+    orders = Orders(given.curator[0], len(registry.asked), merges, mergers)
+    move = Move(given, beside, history, orders, [it for it in reserved if not registry.is_reserved(it)])
     move.prepare()
     lines = move.lines()
     for start in range(0, len(lines), AT_ONCE):
