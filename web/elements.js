@@ -21,7 +21,8 @@ export const byId = id => document.getElementById(id);
 const ODD = /([\p{C}\p{Zl}\p{Zp}\p{Default_Ignorable_Code_Point}\u2800]|(?! )\p{Zs}|(?<=\p{M}{3})\p{M}+)/u;
 const codeOf = character => 'U+' + character.codePointAt(0).toString(16).toUpperCase().padStart(4, '0');
 const toldOf = odd => /^\p{M}/u.test(odd) && !/^\p{Default_Ignorable_Code_Point}/u.test(odd) ? '…' : codeOf(odd);
-const partsOf = text => text.split(ODD);
+// Most texts are plain ASCII, and quicker to see as such.
+const partsOf = text => /^[ -~]*$/.test(text) ? [text] : text.split(ODD);
 
 // What people wrote, with the odd characters as codes, and kept from turning the direction of its neighbours.
 export function written(text) {
@@ -45,10 +46,13 @@ export function outside(text) {
 
 // The day of a time of the record, as it is here; who points at it sees the whole time. A day that its month does not
 // have is only shown.
-const DAY = new Intl.DateTimeFormat('en-GB', { day: 'numeric', month: 'short', year: 'numeric' });
+const FORM = { day: 'numeric', month: 'short', year: 'numeric' };
+let days;
 export function day(at) {
   const time = new Date(at);
-  return Number.isNaN(time.getTime()) ? written(at) : h('time', { datetime: at, title: at }, DAY.format(time));
+  if (Number.isNaN(time.getTime())) return written(at);
+  days ??= new Intl.DateTimeFormat('en-GB', FORM);
+  return h('time', { datetime: at, title: at }, days.format(time));
 }
 
 // Links inside the page.
@@ -67,7 +71,7 @@ export const state = name => h('span', { class: `state ${name}` }, name);
 export const soft = (...parts) => h('span', { class: 'soft' }, parts);
 export const note = (...parts) => h('p', { class: 'soft' }, parts);
 export const fault = (...parts) => h('p', { class: 'fault' }, parts);
-export const grouped = count => count.toLocaleString('en');
+export const grouped = count => String(count).replace(/\B(?=(\d{3})+$)/g, ',');
 export const counted = (count, one, many = `${one}s`) => `${grouped(count)} ${count === 1 ? one : many}`;
 
 export function button(words, onclick, attributes = {}) {

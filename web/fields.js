@@ -72,7 +72,8 @@ export class Field {
 const SOME = 8;
 export class FreeNumbers {
   constructor(number, vendor) {
-    Object.assign(this, { number, vendor, after: 0, open: [] });
+    Object.assign(this, { number, vendor, after: 0, open: [], said: h('div'), offered: h('div') });
+    number.more.replaceChildren(this.said, this.offered);
     for (const it of [number, vendor]) {
       it?.input.addEventListener('input', () => {
         this.after = 0;
@@ -80,9 +81,10 @@ export class FreeNumbers {
       });
     }
     this.show();
+    // the numbers stay as they are: one of them may have the focus by now
     openPetitions().then(it => {
       this.open = it;
-      this.show();
+      this.tell();
     }, () => { /* it is said of the number alone */ });
   }
 
@@ -90,19 +92,33 @@ export class FreeNumbers {
     return this.vendor?.text || foundingVendor();
   }
 
+  get numbers() {
+    return known.vendors.get(this.vid);
+  }
+
+  get isWhole() {
+    return this.number.text !== '' && wrongIn(this.number.field, this.number.text) === '';
+  }
+
   show() {
-    const typed = this.number.text, isWhole = wrongIn(this.number.field, typed) === '';
-    const numbers = known.vendors.get(this.vid);
-    const free = numbers.free(isWhole ? '' : typed, this.after + SOME).slice(this.after);
+    this.tell();
+    this.offer();
+  }
+
+  tell() {
+    const told = () => h('p', { id: 'its-state', role: 'status' }, this.told(parseInt(this.number.text, 16)));
+    this.said.replaceChildren(this.isWhole ? told() : '');
+  }
+
+  offer() {
+    const free = this.numbers.free(this.isWhole ? '' : this.number.text, this.after + SOME).slice(this.after);
     const taken = pid => button(hex(pid), () => this.take(hex(pid)), { class: 'code' });
     const more = button('Others', () => {
       this.after += SOME;
       this.show();
     });
-    this.number.more.replaceChildren(
-      isWhole && typed ? h('p', { id: 'its-state', role: 'status' }, this.told(numbers, parseInt(typed, 16))) : '',
-      h('div', { class: 'buttons free', role: 'group', 'aria-label': 'Free numbers' },
-        soft(free.length ? 'Free:' : 'No other number is free.'), free.map(taken), free.length === SOME && more));
+    this.offered.replaceChildren(h('div', { class: 'buttons free', role: 'group', 'aria-label': 'Free numbers' },
+      soft(free.length ? 'Free:' : 'No other number is free.'), free.map(taken), free.length === SOME && more));
   }
 
   take(digits) {
@@ -111,8 +127,9 @@ export class FreeNumbers {
     this.number.input.focus();
   }
 
-  told(numbers, pid) {
-    const owner = numbers.owners[pid], others = this.open.filter(it => it.vid === this.vid && it.want === hex(pid));
+  told(pid) {
+    const { numbers } = this, owner = numbers.owners[pid];
+    const others = this.open.filter(it => it.vid === this.vid && it.want === hex(pid));
     return [
       hex(pid), ' is ', state(STATES[numbers.states[pid]]), owner && [' and belongs to ', orgLink(owner)], '.',
       others.map(it => [' Also ', petitionLink(it.id), ' of ', orgLink(it.org), ' asks for it.']),

@@ -55,7 +55,7 @@ const many = new Promise(done => { tellMany = done; });
 export const isAllKnown = () => isWhole;
 
 async function readAll() {
-  const founding = read('/founding').then(JSON.parse);
+  const founding = fresh('founding', readFounding).then(() => known.founding);
   let numbers;
   const enough = async vendors => {
     if (isWhole) return;
