@@ -110,7 +110,7 @@ LOOKS = (
     ("an arrow that goes to another row", "looks", ("map.js", "ArrowDown: 256", "ArrowDown: 512")),
     ("a page of the record that is another", "looks", ("record.js", "Math.min(Number(place ?? all), all)", "all")),
     ("a record that does not say where it ends", "looks", ("record.js", "head && endFacts(head)", "null")),
-    ("a day that is not that of here", "amends", ("elements.js", "DAY.format(time)", "at.slice(0, 10)")),
+    ("a day that is not that of here", "amends", ("elements.js", "days.format(time)", "at.slice(0, 10)")),
     ("a day without its time", "amends", ("elements.js", "datetime: at, title: at", "datetime: at")),
     ("a day that stands in the wrong row", "corrects",
      ("record.js", "when.map(() => at ? day(at) : '')", "at ? [day(at)] : []")),
