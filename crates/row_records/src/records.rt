@@ -37,6 +37,7 @@ fn state(text: &str) -> Result<PetitionState, RowFault> {
     match text {
         "open" => Ok(PetitionState::Open),
         "withdrawn" => Ok(PetitionState::Withdrawn),
+        "declined" => Ok(PetitionState::Declined),
         _ => Ok(PetitionState::Granted(pid(text)?)),
     }
 }
