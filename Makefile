@@ -58,7 +58,7 @@ install-service:
 	install -d "$(DESTDIR)$(PREFIX)/lib/usbreg" "$(DESTDIR)$(PREFIX)/share/usbreg" "$(DESTDIR)$(UNITS)"
 	@set -e; put() { $(PLACED) "contrib/$$2" > "$$3/$$2"; chmod "$$1" "$$3/$$2"; }; \
 	for it in $(PROGRAMS); do put 755 $$it "$(DESTDIR)$(PREFIX)/lib/usbreg"; done; \
-	put 644 hwdb.awk "$(DESTDIR)$(PREFIX)/lib/usbreg"; \
+	for it in hwdb.awk record_files.py; do put 644 $$it "$(DESTDIR)$(PREFIX)/lib/usbreg"; done; \
 	for it in nginx.conf nginx-between.conf firewall.nft settings; do put 644 $$it "$(DESTDIR)$(PREFIX)/share/usbreg"; done; \
 	for it in $$(cd contrib && ls *.service *.timer); do put 644 $$it "$(DESTDIR)$(UNITS)"; done
 	install -D -m 644 contrib/usbreg.logrotate "$(DESTDIR)/etc/logrotate.d/usbreg"

@@ -15,7 +15,7 @@ can have, and a storm of all. Refusals add nothing to the logs, nor do half hand
 counted, each of them in few bytes (`lib/wrong_passwords.py`). Messages that come while the server is down for a moment wait for
 it. docs/contracts.md has the numbers. contrib/follow and contrib/publish-list refuse what is no record and no list of a registry
 (`lib/upstreams.py`). contrib/publish-stories writes the same files of a record at once and bit by bit, and keeps them short
-(`lib/stories.py`).
+(`lib/stories.py`), and so does contrib/publish-feed with its feeds, whatever people write (`lib/feeds.py`).
 
 The proxy has the list as a file and a compressed one, by contrib/publish-list, and before that it keeps it as it does
 the reports, also while the server is down. Its log has the name and the key of each order, and keeps them by
@@ -40,6 +40,7 @@ from types import SimpleNamespace
 
 from lib.attackers import Sending
 from lib.desk_orders import ENROL, LIST, ORDER, ask, asked
+from lib.feeds import feeds_as_files, publish_feeds
 from lib.flooded import Stage, filled, half_messages
 from lib.floods import FLOODS, READS, is_noticed, least
 from lib.proxy import CURATOR, DEBIAN, NO_CURATOR, NO_SLUG, ByField, Gate, Guarded, Packaged, Recipe, Small, by_proxy, closing, connected, refusal, signed, told
@@ -228,7 +229,7 @@ def guarded(recipe):
     gate = Gate(recipe.port, has_tls=True)
     gate.gives("over TLS", get("/numbers/0012"), 200, b'{"number":"0012","state":"free"}\n')
     Gate(recipe.port).gives("without TLS", get("/numbers/0012"), *by_proxy(400))
-    for path in ("/history/0", "/history/founding", "/stories/head", "/%68istory/0", "//history/0", "/orgs/../history/0"):
+    for path in ("/history/0", "/history/founding", "/stories/head", "/feeds/all.xml", "/%68istory/0", "//history/0", "/orgs/../history/0"):
         gate.gives(f"{path} from elsewhere", get(path), *by_proxy(403), address="127.0.0.9")
         if gate.ask(get(path))[1] == by_proxy(403)[1]:
             sys.exit(f"{path}: the history is refused to all")
@@ -303,6 +304,7 @@ def main():
             rotated(gate, recipe)
             what_is_kept(gate, server, census, began)
         with serving(usbreg, store, port=server.port).up() as server, recipe:
+            feeds_as_files(gate, recipe, server)
             a_list_as_a_file(gate, recipe, server)
         with serving(usbreg, store, port=server.port).up(), recipe:
             orders_without_end(gate)
@@ -320,6 +322,7 @@ def main():
                 sys.exit(f"{it} is not installed")
         publish_bad_lists(room)
         publish_stories(room)
+        publish_feeds(room)
         refused = follow_bad_registries(usbreg, room)
     print("contrib/nginx.conf: names, sizes, slow and many clients, the list, the reports and the log are as they should be; another")
     print(f"user's order takes at most, and more of each flood:\n{flooded};\n{refused} registries that are none were not followed")

@@ -110,6 +110,7 @@ def set_up(first, room, package):
     same("a grant", first.order("curator-1", given["curator-1"], "walk-3", {"order": "grant", "petition": 1}), '{"done":"granted 0011 to acme by petition 1"}\n')
     same("the list as a file", first.step("The list").lower().count("content-encoding: gzip"), 1)
     first.step("The reports")
+    same("the feed of all", first.step("Feeds").count("<title>1209:0011 granted to acme: Blinker</title>"), 1)
     *_, digest, head = first.step("Times and digests", where="/root").splitlines()
     same("the digest by hand", json.loads(head)["digest"], digest)
     same("the day of the last order", json.loads(head)["time"][:10] in first.must_run("date -u +%F; date -u -d '10 minutes ago' +%F").split(), True)

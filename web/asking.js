@@ -98,3 +98,10 @@ export async function readDated(path, hearing) {
 }
 
 export const read = async path => (await ask(path)).text;
+
+// Whether the proxy has a file at a path.
+export async function isThere(path) {
+  try {
+    return (await fetch(path, { method: 'HEAD', credentials: 'omit', cache: 'no-cache' })).status === 200;
+  } catch { return false; }
+}

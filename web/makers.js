@@ -1,5 +1,6 @@
 // The pages of organisations, and the page of the person that is signed in.
 
+import { isThere } from './asking.js';
 import {
   addressOf, button, choices, counted, facts, h, later, orderLink, orgLink, note, outside, paged, petitionLink,
   searchBar, searchBox, soft, table, written,
@@ -77,6 +78,14 @@ function allPetitions(slug, isKeeper, changed = () => {}) {
   });
 }
 
+// A link to the feed of an organisation, where there is one.
+function feedOf(slug) {
+  const path = `/feeds/orgs/${slug}.xml`, link = h('a', { href: path }, 'What is new, as a feed');
+  const place = h('p', { hidden: true }, link);
+  isThere(path).then(it => { place.hidden = !it; });
+  return place;
+}
+
 export async function orgView({ org: slug }) {
   await founded();
   const got = await orgNow(slug), isKeeper = me()?.name === got.keeper;
@@ -85,7 +94,7 @@ export async function orgView({ org: slug }) {
   return [
     written(got.title), facts(['Short name', got.org], ['Web page', outside(got.site)], ['Keeper', got.keeper]),
     isKeeper && forKeeper(slug), isCurator(me()?.name) && forCurator(slug, isKeeper),
-    h('h2', {}, 'Numbers'), numbersOf(slug), h('h2', {}, 'Open petitions'), openOf(slug), past,
+    h('h2', {}, 'Numbers'), numbersOf(slug), h('h2', {}, 'Open petitions'), openOf(slug), past, feedOf(slug),
   ];
 }
 

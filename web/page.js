@@ -1,7 +1,7 @@
 // The page: which view is shown at which address, and what stands around it.
 
 import { addressAt, readAddress } from './address.js';
-import { Refused, onDown } from './asking.js';
+import { Refused, isThere, onDown } from './asking.js';
 import { button, byId, h, spelt } from './elements.js';
 import { founded, isCurator, known } from './registry.js';
 import { me, onSession, signIn, signOut } from './session.js';
@@ -90,5 +90,6 @@ if (addressAt(location.pathname)) history.replaceState(null, '', `/${location.ha
 const showName = () => { document.querySelector('.brand a').textContent = nameOfAll(); };
 founded().then(showName, () => { /* the view says so */ });
 rules().then(text => { byId('to-rules').hidden = text === ''; });
+isThere('/feeds/all.xml').then(it => { byId('to-feed').hidden = !it; });
 showSession();
 go();

@@ -1,4 +1,5 @@
-"""What the page makes of the files that contrib/publish-stories writes: the same as of the record, with few questions."""
+"""What the page makes of the files that contrib/publish-stories writes: the same as of the record, with few questions; and its links
+to the feeds of contrib/publish-feed."""
 
 import urllib.request
 
@@ -41,6 +42,11 @@ def stories(page):
     return told | {"org/acme": page.text(".story")}
 
 
+def feeds(page):
+    """Returns where the links to feeds lead that are shown."""
+    return page.run("return [...document.querySelectorAll('a[href^=\"/feeds/\"]')].filter(it => it.checkVisibility()).map(it => it.getAttribute('href'))")
+
+
 def loaded(page):
     page.load()
     page.sign_in(CURATOR)
@@ -54,8 +60,13 @@ def reads_the_files_of_the_record(page, stage):
     # The proxy keeps the report from before the import for up to ten seconds.
     page.until(lambda: "1209  0101" in page.run("return fetch('/reports/numbers').then(it => it.text())"), "a report with the import")
     told, cards = stories(page), queue(page)
+    same("links to feeds where there are none", feeds(page), [])
     stage.publish()
     loaded(page)
+    page.open("org/acme")
+    page.until(lambda: feeds(page) == ["/feeds/orgs/acme.xml", "/feeds/all.xml"], "links to the feeds")
+    asked = "return Promise.all(arguments[0].map(it => fetch(it).then(it => `${it.status} ${it.headers.get('content-type')}`)))"
+    same("what the links lead to", page.run(asked, feeds(page)), ["200 application/atom+xml"] * 2)
     same("what the files say", stories(page), told)
     head = page.run("return fetch('/stories/head').then(it => it.text())").strip()
     same("what is asked of the record", set(page.run(ASKED, "/history/")), {f"/history/{head}"})

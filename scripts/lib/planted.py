@@ -213,6 +213,8 @@ FILES = (
      ("record.js", "counted(of ?? items.length", "counted(items.length")),
     ("a queue that asks for each petition", "reads_the_files_of_the_record",
      ("decide.js", "this.queue.terms.get(id) ?? ", "")),
+    ("a link to a feed that is not there", "reads_the_files_of_the_record", ("asking.js", "})).status === 200;", "})).ok;")),
+    ("a feed without a link", "reads_the_files_of_the_record", ("page.js", "byId('to-feed').hidden = !it;", "")),
 )
 
 PLANTED = (*KEYS, *QUESTIONS, *FORMS, *LOOKS, *SLOW, *DECIDES, *TABLES, *FILES)

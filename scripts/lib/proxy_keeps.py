@@ -46,7 +46,7 @@ def what_is_kept(gate, server, census, began):
 def a_list_as_a_file(gate, recipe, server):
     """Checks what hosts get of the list once it is a file, also while the server is down."""
     at = f"{recipe.folder}/usbreg-list"
-    os.mkdir(at)
+    os.makedirs(at, exist_ok=True)
 
     def publish():
         ran = subprocess.run([f"{CONTRIB}/publish-list", f"http://{HOST}:{server.port}/list", at], capture_output=True, check=False, timeout=PATIENCE)

@@ -164,13 +164,14 @@ class Stage:
             sys.exit(f"{order} of {caller} got {got!r}")
 
     def publish(self):
-        """Writes the reports, and what the record says of each thing, to files, as the timer does."""
+        """Writes the reports, what the record says of each thing, and the feeds to files, as the timer does."""
         at, server = f"{self.recipe.folder}/usbreg-list", f"http://{HOST}:{self.port}"
-        for name, url, into in (("reports", f"{server}/reports", "reports"), ("stories", server, "stories")):
-            subprocess.run([f"{CONTRIB}/publish-{name}", url, f"{at}/{into}"], check=True)
+        subprocess.run([f"{CONTRIB}/publish-reports", f"{server}/reports", f"{at}/reports"], check=True)
+        subprocess.run([f"{CONTRIB}/publish-stories", server, f"{at}/stories"], check=True)
+        subprocess.run([f"{CONTRIB}/publish-feed", server, f"{at}/feeds", f"http://{HOST}:{self.recipe.port}"], check=True)
 
     def unpublish(self):
-        for name in ("reports", "stories"):
+        for name in ("reports", "stories", "feeds"):
             shutil.rmtree(f"{self.recipe.folder}/usbreg-list/{name}")
 
     def password(self, name, password):

@@ -45,25 +45,29 @@ class Registry(Upstream):
 
     def __init__(self):
         super().__init__(self.answer)
-        self.lines = []
+        self.lines, self.founding = [], FOUNDING
 
     def answer(self, path):
         if path == "/head" and self.lines:
-            return [head_of([FOUNDING, *self.lines[0]])]
+            return [head_of([self.founding, *self.lines[0]])]
         what = path.removeprefix("/history/")
-        return self.lines and [FOUNDING if what == "founding" else b"".join(self.lines[0][int(what) :][:1000])]
+        return self.lines and [self.founding if what == "founding" else b"".join(self.lines[0][int(what) :][:1000])]
 
 
 class Folder:
-    """A folder for the files of a registry."""
+    """A folder for the files that a program of contrib/ makes of a registry. It is told these words too."""
 
-    def __init__(self, path, registry):
-        self.path, self.registry = path, registry
+    def __init__(self, path, registry, program="publish-stories", *words):
+        self.path, self.registry, self.program, self.words = path, registry, program, words
+
+    def beside(self, name):
+        return Folder(f"{self.path}-{name}", self.registry, self.program, *self.words)
 
     def publish(self, *lines):
         """Writes the files of a record of these lines, or if none are given, of no registry. Returns the exit status."""
         self.registry.lines = lines or None
-        return subprocess.run([f"{CONTRIB}/publish-stories", self.registry.url, self.path], capture_output=True, check=False, timeout=60).returncode
+        words = [f"{CONTRIB}/{self.program}", self.registry.url, self.path, *self.words]
+        return subprocess.run(words, capture_output=True, check=False, timeout=60).returncode
 
     def files(self):
         """Returns what each file has, but for the one that says where to go on."""
@@ -87,25 +91,26 @@ def publish_stories(room):
         same("a line", lines[0], b"2 " + LINES[1].strip())
         one = json.loads(lines[3][2:])
         same("the line of an import", (one["items"], one["of"]), ([["0011", "1"]], 4))
-        goes_on(Folder(f"{room}/grown", registry), whole)
+        grown = Folder(f"{room}/grown", registry)
+        goes_on(grown, whole, LINES)
+        write(f"{grown.path}/orgs/acme", "")
+        more = [*LINES, LINES[6].replace(b"petition 2", b"petition 17")]
+        same("a file that lost its lines", (grown.publish(more), grown.numbers("orgs/acme"), grown.numbers("open")), (0, (0, [2, 3, 4, 5, 7, 12, 13, 14]), (0, [])))
         is_kept_short(Folder(f"{room}/long", registry))
 
 
-def goes_on(grown, whole):
-    """Checks the files of a record that grows, and of one that is another."""
-    for count in range(len(LINES) + 1):
-        same(f"{count} requests are written", grown.publish(LINES[:count]), 0)
+def goes_on(grown, whole, lines):
+    """Checks the files of a record that grows to these lines, and of one that is another."""
+    for count in range(len(lines) + 1):
+        same(f"{count} requests are written", grown.publish(lines[:count]), 0)
     same("the files of a record that grew", grown.files(), whole.files())
     times = {it: os.stat(f"{grown.path}/{it}").st_mtime_ns for it in (*grown.files(), "state")}
-    same("nothing new", (grown.publish(LINES), {it: os.stat(f"{grown.path}/{it}").st_mtime_ns for it in times} == times), (0, True))
-    first = [LINES[0].replace(b"Acme", b"Other"), *LINES[1:]]
-    others = ("another last line", [*LINES[:-1], LINES[0]]), ("fewer requests", LINES[:6]), ("all again", LINES), ("another first line", first), ("the first one again", LINES)
-    for number, (what, lines) in enumerate(others):
-        anew = Folder(f"{grown.path}-{number}", grown.registry)
-        same(what, (grown.publish(lines), anew.publish(lines), grown.files()), (0, 0, anew.files()))
-    write(f"{grown.path}/orgs/acme", "")
-    more = [*LINES, LINES[6].replace(b"petition 2", b"petition 17")]
-    same("a file that lost its lines", (grown.publish(more), grown.numbers("orgs/acme"), grown.numbers("open")), (0, (0, [2, 3, 4, 5, 7, 12, 13, 14]), (0, [])))
+    same("nothing new", (grown.publish(lines), {it: os.stat(f"{grown.path}/{it}").st_mtime_ns for it in times} == times), (0, True))
+    first = [lines[0].replace(b"Acme", b"Other"), *lines[1:]]
+    others = ("another last line", [*lines[:-1], lines[0]]), ("fewer requests", lines[:6]), ("all again", lines), ("another first line", first), ("the first one again", lines)
+    for number, (what, other) in enumerate(others):
+        anew = grown.beside(number)
+        same(what, (grown.publish(other), anew.publish(other), grown.files()), (0, 0, anew.files()))
     before = grown.files()
     same("a registry that is none", (grown.publish(), grown.files()), (1, before))
 
