@@ -90,6 +90,5 @@ if (addressAt(location.pathname)) history.replaceState(null, '', `/${location.ha
 const showName = () => { document.querySelector('.brand a').textContent = nameOfAll(); };
 founded().then(showName, () => { /* the view says so */ });
 rules().then(text => { byId('to-rules').hidden = text === ''; });
-isThere('/feeds/all.xml').then(it => { byId('to-feed').hidden = !it; });
 showSession();
-go();
+go().then(() => isThere('/feeds/all.xml')).then(it => { byId('to-feed').hidden = !it; });
