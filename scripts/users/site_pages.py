@@ -61,8 +61,9 @@ class Site:
                 continue
             for name in sorted(os.listdir(f"{self.top}/{folder}")):
                 path = f"{folder}/{name}"
-                if os.path.isfile(f"{self.top}/{path}/index.md") and not os.path.islink(f"{self.top}/{path}"):
-                    self.pages[path] = read(f"{self.top}/{path}/index.md")
+                here, page = f"{self.top}/{path}", f"{self.top}/{path}/index.md"
+                if os.path.isfile(page) and not os.path.islink(here) and not os.path.islink(page):
+                    self.pages[path] = read(page)
                     if folder == "org":
                         self.orgs.setdefault(self.names.slug(name), path)
                     elif re.fullmatch("[0-9a-fA-F]{4}", name):
@@ -147,4 +148,14 @@ class Site:
                 if not os.listdir(os.path.dirname(f"{self.top}/{path}")):
                     os.rmdir(os.path.dirname(f"{self.top}/{path}"))
             else:
+                make_way(f"{self.top}/{path}")
                 write(f"{self.top}/{path}", data)
+
+
+def make_way(page):
+    """Removes a symbolic link that stands for a page or for its folder, and a file in the place of the folder. What a link leads to is
+    another page."""
+    folder = os.path.dirname(page)
+    for it in (folder, page):
+        if os.path.islink(it) or (it == folder and os.path.isfile(it)):
+            os.remove(it)
