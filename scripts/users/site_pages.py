@@ -23,10 +23,9 @@ class Names:
         if moved:
             table = f"{moved}/names.tsv" if os.path.isdir(moved) else moved
             for slug, _, name in rows_of(table):
-                self.by_name[name.lower()] = slug
-                # a name that cannot be that of a folder
+                # one that cannot be that of a folder is no name in a site: the slug is, in the pages of its numbers too
                 if "/" not in name and not name.startswith("."):
-                    self.by_slug[slug] = name
+                    self.by_name[name.lower()], self.by_slug[slug] = slug, name
             if os.path.exists(f"{moved}/numbers.tsv"):
                 self.folders = {int(number, 16): folder for number, folder in rows_of(f"{moved}/numbers.tsv")}
 
