@@ -26,7 +26,7 @@ REFUSALS = {
     "layout": ("its layout is {layout}, and not pid", "Write `layout: pid`, if it is the page of a device."),
     "missing": ("it has no {field} that can be taken", "Write what is missing into the page."),
     "vendor": ("its vendor, {vendor}, is not the one that moves", "Nothing. For its numbers name that vendor by --also; they are then reserved."),
-    "removed": ("its page was removed, by the commit {commit}", "Nothing; or let a curator send `release`, if the number is free."),
+    "removed": ("its page was removed, {how}", "Nothing; or let a curator send `release`, if the number is free."),
     "reserved there": ("its number is reserved in the registry", "Let a curator send `release`, if the page is right, and run this again."),
     "owned there": ("its number belongs to {org} in the registry", "Mend the owner. A number never changes its owner."),
     "list needed": ("it has no licence, or no source that is a link, and its number comes by `usbreg import` alone", "Write both into the page; or import it for {org}."),

@@ -2,6 +2,7 @@
 removed."""
 
 import dataclasses
+import os
 import re
 import subprocess
 import sys
@@ -116,10 +117,13 @@ class History:
                 self.removed[self.number(path)] = (path, commit)
 
     def forget_changes(self):
-        """Forgets when the pages were changed that the checkout has otherwise than its last commit: what they say is in no commit."""
+        """Forgets when the pages were changed that the checkout has otherwise than its last commit: what they say is in no commit. Those
+        that it does not have are removed, without a commit."""
         said = git(self.top, "diff", "--name-only", "-z", "HEAD", "--", self.vendor, "org") or ""
-        for path in set(said.split("\0")) & set(self.merges):
+        for path in sorted(set(said.split("\0")) & set(self.merges)):
             self.merges[path].changed = ""
+            if (number := self.number(path)) and not os.path.lexists(f"{self.top}/{path}"):
+                self.removed.setdefault(number, (path, ""))
 
     def is_page(self, path):
         return re.fullmatch(f"({self.vendor}|org)/[^/]+/index.md", path) is not None

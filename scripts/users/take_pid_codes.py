@@ -169,8 +169,8 @@ def history_of(given, there):
         return None
     history = History(given.repository, given.vendor)
     for number, (path, commit) in sorted(history.removed.items()):
-        if not os.path.exists(f"{given.repository}/{os.path.dirname(path)}"):
-            there.refuse(path, {(given.vendor, number)}, "removed", commit=commit[:10])
+        if number not in there.numbers and not os.path.exists(f"{given.repository}/{os.path.dirname(path)}"):
+            there.refuse(path, {(given.vendor, number)}, "removed", how=f"by the commit {commit[:10]}" if commit else "and no commit says so yet")
     return history
 
 
