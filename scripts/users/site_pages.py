@@ -115,6 +115,9 @@ class Site:
         folder = self.names.folders.get(pid) if vendor == self.reader.vendor else None
         digits = f"{pid:04X}" if self.upper else f"{pid:04x}"
         path = self.numbers.setdefault(number, f"{vendor}/{folder or digits}")
+        if f"{vendor}/{folder}" in self.pages:
+            # of two folders of one number the one that the move took
+            path = f"{vendor}/{folder}"
         if not known["held"]:
             old = self.pages.get(path)
             return path, old if old and set(WITHDRAWN) & set(Page(old).fields) else None
