@@ -19,13 +19,14 @@ class Names:
     its folder. Without one an organisation has its slug as its name."""
 
     def __init__(self, moved=None):
-        self.by_slug, self.by_name, self.folders = {}, {}, {}
+        self.by_slug, self.by_name, self.by_letters, self.folders = {}, {}, {}, {}
         if moved:
             table = f"{moved}/names.tsv" if os.path.isdir(moved) else moved
-            for slug, _, name in rows_of(table):
+            for slug, _, name in sorted(rows_of(table), key=lambda it: it[2]):
                 # one that cannot be that of a folder is no name in a site: the slug is, in the pages of its numbers too
                 if "/" not in name and not name.startswith("."):
-                    self.by_name[name.lower()], self.by_slug[slug] = slug, name
+                    self.by_name[name], self.by_slug[slug] = slug, name
+                    self.by_letters.setdefault(name.lower(), slug)
             if os.path.exists(f"{moved}/numbers.tsv"):
                 self.folders = {int(number, 16): folder for number, folder in rows_of(f"{moved}/numbers.tsv")}
 
@@ -33,7 +34,9 @@ class Names:
         return self.by_slug.get(slug, slug)
 
     def slug(self, name):
-        return self.by_name.get(" ".join(plain_of(name).lower().split()), name)
+        """Returns the slug of a name, which may be written in another case if it is no other name."""
+        plain = " ".join(plain_of(name).split())
+        return self.by_name.get(plain) or self.by_letters.get(plain.lower(), name)
 
 
 def rows_of(path):
