@@ -58,7 +58,8 @@ class Names:
     def give(self, orgs, given, enrolled):
         """Names organisations, those in the given table of names as it says. No other gets a slug that is enrolled, unless that is its
         name."""
-        kept = {it for it in orgs if it not in given and slug_of(it) == it and not is_curators(it, self.curators)}
+        others = {given[it][0] for it in orgs if it in given}
+        kept = {it for it in orgs if it not in given and slug_of(it) == it and it not in others and not is_curators(it, self.curators)}
         self.used = {slug for slug, _ in given.values()} | kept | set(enrolled)
         for name, org in sorted(orgs.items(), key=lambda it: (it[0].lower(), it[0])):
             slug = name if name in kept else None
