@@ -123,7 +123,7 @@ class Move:
         taken = {it.page.split("/")[1] for it in there.numbers.values()}
         entries = there.entries(vendor)
         outcomes = [refused.get(it) for it in entries if it not in taken]
-        listed = sum(map(len, self.beside.lists.values())) - sum(it.by_list for it in self.beside.back)
+        listed = sum(not it.withdrawn for numbers in self.beside.lists.values() for it in numbers)
         pages = {
             "pages": len(entries), "granted": len(self.beside.asked), "imported": listed, "amended": len(self.beside.amended), "returned": len(self.beside.back),
             "as before": len(taken) - len(self.beside.asked) - listed - len(self.beside.amended) - len(self.beside.back),
