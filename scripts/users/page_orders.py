@@ -24,7 +24,7 @@ import tempfile
 from beside_a_registry import Beside
 from links import Links, line_of
 from move_orders import Orders
-from move_report import Report
+from move_report import Report, shown
 from page_history import Merge, git
 from page_text import write, yaml
 from pid_codes import ALIASES, Licences
@@ -218,7 +218,7 @@ def main():
     # of a page that is taken only what gets lost and what is changed is said, and that changes no status
     for page, outcome, what, to_do in branch.report.table()[1:]:
         if page in branch.difference.paths:
-            print(f"{page}: {outcome}: {what}. {to_do}", file=sys.stderr)
+            print(shown(f"{page}: {outcome}: {what}. {to_do}"), file=sys.stderr)
     if any(page in branch.difference.paths and outcome in ("left out", "reserved") for page, outcome, *_ in branch.report.lines):
         sys.exit(SOME_LEFT_OUT)
 
