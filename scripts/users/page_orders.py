@@ -72,6 +72,10 @@ class Difference:
             sys.exit(f"git {' '.join(words)} in {self.top} failed")
         return out
 
+    def has(self, page):
+        """Returns whether a page changed, or in a folder that is none a file that is not removed."""
+        return page in self.paths or any(it.startswith(f"{page}/") and status != "D" for it, status in self.paths.items())
+
     def pages(self, commit, room, vendor):
         """Puts the pages of a commit into a folder, as they are: `git archive` would leave out what a branch says. Returns the folder."""
         for name in ("org", vendor):
@@ -115,7 +119,7 @@ class Branch:
         for it in now.orgs.values():
             # one that is not changed only owns numbers
             it.has_page = it.has_page and it.page in self.difference.paths
-        now.refused = [it for it in now.refused if it.page in self.difference.paths]
+        now.refused = [it for it in now.refused if self.difference.has(it.page)]
 
     def requests(self, room):
         """Returns the requests of the branch, and tells what is none."""
@@ -217,9 +221,9 @@ def main():
             print(line_of(it), end="")
     # of a page that is taken only what gets lost and what is changed is said, and that changes no status
     for page, outcome, what, to_do in branch.report.table()[1:]:
-        if page in branch.difference.paths:
+        if branch.difference.has(page):
             print(shown(f"{page}: {outcome}: {what}. {to_do}"), file=sys.stderr)
-    if any(page in branch.difference.paths and outcome in ("left out", "reserved") for page, outcome, *_ in branch.report.lines):
+    if any(branch.difference.has(page) and outcome in ("left out", "reserved") for page, outcome, *_ in branch.report.lines):
         sys.exit(SOME_LEFT_OUT)
 
 
