@@ -36,11 +36,11 @@ class Beside:
             self.enrolled.append(org)
         elif org.has_page and (known["title"], known["site"]) != (org.title, org.site):
             if self.was_said(org.slug, digits_of_org(org)):
-                self.there.report.tell(org.page, "newer")
+                self.keep(org.page, "newer")
             elif self.may_change(org.slug, org.page):
                 self.amended_orgs.append(org)
             else:
-                self.there.report.tell(org.page, "both")
+                self.keep(org.page, "both")
 
     def was_said(self, subject, digits):
         """Returns whether a request that a page makes was acted on before: the registry says otherwise since."""
@@ -49,6 +49,10 @@ class Beside:
     def may_change(self, subject, page):
         """Returns whether the registry says what an earlier page said, so that the page of now is newer."""
         return self.registry.was_moved(subject)
+
+    def keep(self, page, kind):
+        """Reports why a page changes nothing."""
+        self.there.report.tell(page, kind)
 
     def sort_number(self, subject, number, slug):
         """Sorts a number. Returns why its page is not taken, or None."""
@@ -92,10 +96,10 @@ class Beside:
         if page == {name: known.get(name) for name in TERMS}:
             self.kept += 1
         elif said or (number.by_list and known.get("licence")):
-            self.there.report.tell(number.page, "newer")
+            self.keep(number.page, "newer")
         elif number.by_list:
-            self.there.report.tell(number.page, "list only")
+            self.keep(number.page, "list only")
         elif self.may_change(subject, number.page):
             self.amended.append(number)
         else:
-            self.there.report.tell(number.page, "both")
+            self.keep(number.page, "both")

@@ -30,6 +30,8 @@ REFUSALS = {
     "reserved there": ("its number is reserved in the registry", "Let a curator send `release`, if the page is right, and run this again."),
     "owned there": ("its number belongs to {org} in the registry", "Mend the owner. A number never changes its owner."),
     "list needed": ("it has no licence, or no source that is a link, and its number comes by `usbreg import` alone", "Write both into the page; or import it for {org}."),
+    "terms needed": ("it has no licence, or no source that is a link, and no order changes a number without", "Write both into the page."),
+    "both there": ("it has changed, and the registry says otherwise than its base", "Let the keeper send `amend` or `amend-org`, if the page is right."),
     "org removed": ("no order removes an organisation", "Leave the page; its numbers can be returned."),
     "returned there": ("its number was returned since it was taken", "Remove the page."),
 }

@@ -45,6 +45,10 @@ class Changed(Beside):
     def was_said(self, subject, digits):
         return False
 
+    def keep(self, page, kind):
+        """Reports that no request says what a page says now."""
+        self.there.report.refuse(page, False, "both there" if kind == "both" else "terms needed")
+
     def may_change(self, subject, page):
         if isinstance(subject, str):
             known, old = self.registry.orgs[subject], next((it for it in self.before.orgs.values() if it.page == page), None)
