@@ -61,11 +61,15 @@ class Beside:
             return self.sort_known(subject, number, known, slug)
         reserved = self.registry.reservation(subject)
         if reserved is not None:
-            if not MOVED.fullmatch(reserved):
+            if not self.may_release(reserved):
                 return "reserved there", {}
             self.released.add(subject)
         self.put_new(number, slug)
         return None
+
+    def may_release(self, key):
+        """Returns whether the request with this key, which reserved a number, was one of a move."""
+        return MOVED.fullmatch(key) is not None
 
     def put_new(self, number, slug):
         if number.by_list:

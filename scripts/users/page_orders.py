@@ -45,6 +45,9 @@ class Changed(Beside):
     def was_said(self, subject, digits):
         return False
 
+    def may_release(self, key):
+        return False
+
     def keep(self, page, kind):
         """Reports that no request says what a page says now."""
         self.there.report.refuse(page, False, "both there" if kind == "both" else "terms needed")
