@@ -148,7 +148,8 @@ class Repository:
             self.refuse(path, here, refusal[0], **refusal[1])
         else:
             self.numbers[number] = self.number(f"{number:04x}", path, page)
-        if readable and (old := numbers_in("redirect_from", page.fields.get("redirect_from", ""), self.vendor) - {(self.vendor, number)}):
+        if readable and "redirect_from" in page.fields:
+            old = numbers_in("redirect_from", page.fields["redirect_from"], self.vendor) - {(self.vendor, number)}
             self.old_addresses.append((path, "redirect_from", old))
         if os.path.isdir(f"{self.top}/{self.vendor}/{name}"):
             self.read_nested(f"{self.vendor}/{name}", self.vendor)
@@ -277,10 +278,13 @@ class Repository:
             free = {number for number in it.numbers - taken if number[0] in vendors}
             named |= free
             self.report.refuse(it.page, bool(free), it.kind, **it.details)
+        pages = {it.page for it in self.numbers.values()}
         for path, field, numbers in self.old_addresses:
             if free := {it for it in numbers - taken if it[0] in vendors}:
                 named |= free
                 self.report.tell(path, "old address", field=field, names=numbers_text(free))
+            elif path in pages:
+                self.report.tell(path, "field", field=field)
         return sorted(named)
 
 
