@@ -52,6 +52,7 @@ REASONS = {
     "files": (LOST, "its other files are not taken: {names}", "Nothing: the registry has no place for them. Keep the old pages."),
     "no fields": (CHANGED, "it has no fields that can be read ({why}), and is taken by the name of its folder", "Mend the page."),
     "field twice": (CHANGED, "the field {field} comes twice: the last one counts, and {dropped} is not taken", "Remove one of the two."),
+    "list": (CHANGED, "its {field} is a list, and is taken as: {text}", "Write it as one text, if this is not good."),
     "title": (CHANGED, "its title {written}, of {size} bytes, is taken as: {title}", "Shorten it to 200 bytes without control characters, if this is not good."),
     "no title": (CHANGED, "it has no title, and the name of its folder stands for it", "Write a title into the page."),
     "org layout": (CHANGED, "its layout is {layout}, and it is taken as an organisation", "Write `layout: org`; or remove the page, if it is none."),

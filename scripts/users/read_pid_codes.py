@@ -107,6 +107,10 @@ class Repository:
         """Reports what is wrong with a page that is taken, and what the registry has no place for."""
         for kind, details in page.wrong:
             self.report.tell(path, kind, **details)
+        # what is made of several links or licences is told where they are read
+        for field in ("title", "owner"):
+            if len(page.lists.get(field, ())) > 1:
+                self.report.tell(path, "list", field=field, text=page.fields[field])
         if page.text:
             self.report.tell(path, "text", size=len(page.text.encode()))
         if others := sorted(set(os.listdir(os.path.dirname(f"{self.top}/{path}"))) - {"index.md"}):
