@@ -20,10 +20,15 @@ const SHOWN = [
   ...STATES.map((name, it) => [name, name, [it]]),
 ];
 
-// The words to search for: of a number as people write it, its digits. Digits alone may be a part of a number.
+// The words to search for: of a number as people write it, its digits, behind those of its vendor if it names one.
+// Digits alone may be a part of a number.
 export function wordsIn(text) {
+  const wordOf = it => {
+    const { vendor, number = it } = numberIn(it) ?? {};
+    return vendor ? `${vendor}:${number}` : number;
+  };
   const words = text.toLowerCase().split(/\s+/).filter(Boolean);
-  return words.map(it => /^[0-9a-f]{1,4}$/.test(it) ? it : numberIn(it)?.number ?? it);
+  return words.map(it => /^[0-9a-f]{1,4}$/.test(it) ? it : wordOf(it));
 }
 
 // A search, whose words, state and page are in the address.
@@ -62,7 +67,9 @@ class Search {
 
   show() {
     const { vendor } = this, [, , states] = SHOWN.find(([value]) => value === this.kind.value) ?? SHOWN[0];
-    const found = vendor.search(wordsIn(this.query.value), states, known.orgs);
+    // a word with the digits of another vendor is no number of this one
+    const asked = wordsIn(this.query.value).map(it => it.startsWith(`${vendor.vid}:`) ? it.slice(5) : it);
+    const found = vendor.search(asked, states, known.orgs);
     const { shown, words, links } = paged(found, this.page, PER_PAGE, page => this.address(page));
     this.count.textContent = isAllKnown() ? `${counted(found.length, 'number')}${words}` : 'The numbers are read …';
     const cells = pid => [
