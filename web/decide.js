@@ -206,7 +206,9 @@ const OTHER_ORDERS = [
 
 export async function decideView(_, given) {
   await loaded();
-  if (!isCurator(me()?.name)) return ['Decide', h('p', {}, 'This page is for curators. Sign in as one.')];
+  if (!isCurator(me()?.name)) {
+    return ['Decide', h('p', { class: 'waits' }, 'This page is for curators. Sign in as one.')];
+  }
   const terms = openInFiles().catch(() => new Map()), open = await openPetitions();
   const queue = new Queue(open, await terms, given);
   const isWanted = () => queue.list.isConnected || !queue.wasShown;

@@ -152,7 +152,9 @@ export async function orderView({ order: kind }, given) {
   if (!kind) return allOrders();
   if (needsAll(kind)) await loaded();
   const { words, told, isCurators } = ORDERS[kind];
-  if (isCurators && !isCurator(me()?.name)) return [words, h('p', {}, 'This order is for curators. Sign in as one.')];
+  if (isCurators && !isCurator(me()?.name)) {
+    return [words, h('p', { class: 'waits' }, 'This order is for curators. Sign in as one.')];
+  }
   if (given.vendor && kind !== 'add-vendor' && !known.vendors.has(given.vendor)) return null;
   const form = new OrderForm(kind, await whatIsThere(kind, given), given);
   const isFirst = kind === 'ask' && me() && orgsKeptBy(me().name).length === 0;

@@ -109,7 +109,7 @@ const HOW = [
 function beforeSignIn() {
   const enter = async () => { if (await signIn()) dispatchEvent(new Event('hashchange')); };
   return [
-    'Your page', h('p', {}, 'Sign in to see your organisations, numbers and petitions.'),
+    'Your page', h('p', { class: 'waits' }, 'Sign in to see your organisations, numbers and petitions.'),
     button('Sign in', enter, { class: 'main' }),
     h('h2', {}, 'How to get a number'), h('ol', {}, HOW.map(step => h('li', {}, step))),
   ];

@@ -74,6 +74,8 @@ byId('sign-out').addEventListener('click', () => {
   go(true);
 });
 onSession(showSession);
+// A view that waits for a person is shown once somebody signed in, also for an order at the top of the page.
+onSession(() => { if (me() && document.querySelector('main .waits')) go(); });
 onDown(isDown => { byId('down').hidden = !isDown; });
 addEventListener('hashchange', () => go(true));
 // A link to the view that is shown shows it anew.
