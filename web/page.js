@@ -2,7 +2,7 @@
 
 import { addressAt, readAddress } from './address.js';
 import { Refused, isThere, onDown } from './asking.js';
-import { button, byId, h, spelt } from './elements.js';
+import { button, byId, h, note, spelt } from './elements.js';
 import { founded, isCurator, known } from './registry.js';
 import { me, onSession, signIn, signOut } from './session.js';
 import { showPending } from './acting.js';
@@ -30,6 +30,8 @@ async function viewNow(address) {
   try {
     return address && await VIEWS[address.view](address.values, address.given) || NONE;
   } catch (why) {
+    // what the registry does not have
+    if (why instanceof Refused && why.status === 404 && why.body.refused) return [NONE[0], note(why.message), NONE[1]];
     const words = why instanceof Refused ? why.message : `A fault of the page: ${why.message}`;
     return ['This cannot be shown', h('p', { class: 'fault', role: 'alert' }, words), button('Try again', () => go())];
   }
