@@ -7,7 +7,7 @@ const bytesOf = text => new TextEncoder().encode(text).length;
 // it: its digits, and those of its vendor if it names one. Null if it is none.
 export function numberIn(text) {
   const it = text.trim().replace(/[.,;/]+$/, '').toLowerCase();
-  const [, vendor, number] = it.match(/^(?:usb\\)?vid_([0-9a-f]{4})&pid_([0-9a-f]{4})(?:&.*)?$/)
+  const [, vendor, number] = it.match(/^(?:usb\\)?vid_([0-9a-f]{4})&pid_([0-9a-f]{4})(?:[&\\].*)?$/)
     ?? it.match(/^(?:0x)?([0-9a-f]{4})[:/](?:0x)?([0-9a-f]{1,4})$/)
     ?? it.match(/^()(?:0x|pid_)?([0-9a-f]{1,4})$/) ?? [];
   return number === undefined ? null : { vendor: vendor || null, number: number.padStart(4, '0') };

@@ -67,6 +67,7 @@ test('a number is read as people write it', () => {
     '1209:0011': '1209:0011', '0x0011': ':0011', 11: ':0011', 'VID_1209&PID_0011': '1209:0011',
     '1209/0011': '1209:0011', '0011.': ':0011', ' 00aB ': ':00ab', 'USB\\VID_CAFE&PID_00AB&REV_0100': 'cafe:00ab',
     '0x1209:0x11': '1209:0011', '1209/0011/': '1209:0011', pid_0011: ':0011',
+    'USB\\VID_1209&PID_0011\\6&2A&0&1': '1209:0011',
   };
   for (const [text, is] of Object.entries(right)) assert.equal(of(text), is, text);
   const none = ['', 'zz', '00110', '1209:', ':0011', '1209:00110', '12 09', 'VID_1209'];
