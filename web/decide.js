@@ -5,12 +5,15 @@ import {
   addressOf, button, choices, counted, facts, fault, h, note, orderLink, orgLink, paged, petitionLink, searchBar,
   searchBox, select, written,
 } from './elements.js';
-import { isCurator, known, loaded, noteClosed, openPetitions, petitionNow } from './registry.js';
+import {
+  foundingVendor, isCurator, known, loaded, noteClosed, numberNow, openPetitions, petitionNow,
+} from './registry.js';
 import { me } from './session.js';
 import { Decision, reasonInput } from './decision.js';
 import { aboutPetition, numbersTable, standingOf, termsOf, vendorChoice, wishNow } from './pieces.js';
 import { follow } from './entries.js';
 import { openInFiles } from './record.js';
+import { readReply } from './reading.js';
 import { wordsIn } from './numbers.js';
 
 const PER_PAGE = 20;
@@ -42,17 +45,19 @@ class Card {
     const { id } = listed, waiting = note('It is read …');
     this.box = h('input', { type: 'checkbox', 'aria-label': `Choose petition ${id}`, onchange: () => queue.choose() });
     this.end = h('p', { class: 'soft' });
+    this.warned = h('div', {}, warnings(listed, queue.stillOpen()));
+    this.wants = h('span', {}, wishNow(listed));
     this.element = h('article', { class: 'card', 'aria-label': `Petition ${id}`, tabindex: -1 },
       h('div', { class: 'head' }, this.box,
         h('h2', {}, h('a', { href: `#/petition/${id}` }, `Petition ${id}`), ': ', written(listed.title))),
-      warnings(listed, queue.open), waiting, this.end);
+      this.warned, waiting, this.end);
     this.fill(waiting).catch(why => waiting.replaceWith(fault(why.message)));
   }
 
   async fill(waiting) {
     const { id } = this.listed, petition = this.queue.terms.get(id) ?? await petitionNow(id);
     const owner = known.orgs.get(petition.org);
-    const about = facts(['Wants', wishNow(petition)], ...termsOf(petition),
+    const about = facts(['Wants', this.wants], ...termsOf(petition),
       ['Organisation', [owner && written(owner.title), ' (', orgLink(petition.org), ')']], ['Keeper', owner?.keeper]);
     this.decision = new Decision(petition, {
       ended: () => this.queue.ended(this), refused: refusal => this.refused(refusal),
@@ -61,6 +66,17 @@ class Card {
       h('div', {}, h('h3', {}, 'Its other numbers'), numbersTable(petition.org, OTHERS))));
     if (petition.state !== 'open') this.close(petition);
     else if (document.activeElement === this.element) this.focus();
+  }
+
+  // Says anew what the wanted number is and who else wants it, if that is not what stands there.
+  tell() {
+    const { listed, queue } = this;
+    const told = { warned: h('div', {}, warnings(listed, queue.stillOpen())), wants: h('span', {}, wishNow(listed)) };
+    for (const [name, it] of Object.entries(told)) {
+      if (it.textContent === this[name].textContent) continue;
+      this[name].replaceWith(it);
+      this[name] = it;
+    }
   }
 
   // The petition was closed by somebody else.
@@ -109,11 +125,15 @@ class Queue {
     this.show();
   }
 
+  stillOpen() {
+    return this.open.filter(it => !this.closed.has(it.id));
+  }
+
   // The petitions that pass the filter, sorted.
   found() {
     const words = wordsIn(this.query.value), [, , order] = SORTS.find(([it]) => it === this.sort.value) ?? SORTS[0];
     const text = it => `${keyOf(it)} ${it.org} ${known.orgs.get(it.org)?.title ?? ''} ${it.title}`.toLowerCase();
-    return this.open.filter(it => !this.closed.has(it.id) && (!this.vendor || it.vid === this.vendor)
+    return this.stillOpen().filter(it => (!this.vendor || it.vid === this.vendor)
       && words.every(word => text(it).includes(word))).sort(order);
   }
 
@@ -133,6 +153,7 @@ class Queue {
     const decided = this.closed.size ? `; ${counted(this.closed.size, 'petition')} closed since` : '';
     const told = isAll ? '' : `; ${this.found().length} found`;
     this.count.textContent = `${counted(open, 'open petition')}${told}${words}${decided}.`;
+    for (const it of this.cards) if (!this.closed.has(it.listed.id)) it.tell();
   }
 
   // A card's petition is closed: the count follows, and after one's own decision the next one gets the focus.
@@ -185,10 +206,13 @@ class Queue {
   }
 
   // What somebody else decided, as the record tells.
-  heard({ order, petition, caller, reason }) {
+  heard({ order, petition, caller, reason, done }) {
     if (!ENDS[order]) return;
     noteClosed(petition);
-    if (this.closed.has(petition) || !this.open.some(it => it.id === petition)) return;
+    if (this.closed.has(petition)) return;
+    const { vendor = foundingVendor(), number } = readReply(done) ?? {};
+    if (number) numberNow(vendor, number).then(() => this.tell(), () => { /* a view asks again */ });
+    if (!this.open.some(it => it.id === petition)) return;
     const card = this.cards.find(it => it.listed.id === petition);
     if (card) card.close({ state: ENDS[order], by: caller, reason });
     else {
