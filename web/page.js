@@ -40,7 +40,7 @@ async function viewNow(address) {
 // Shows the view at this address, unless another one was asked for meanwhile. Its heading gets the focus if one came
 // here by a link, so that it is read aloud.
 let turn = 0;
-async function go(isFollowed = false) {
+async function go(isFollowed = false, isForOrder = false) {
   const mine = turn += 1, address = readAddress(location.hash);
   for (const link of document.querySelectorAll('header nav a')) {
     const isHere = address && kindOf(readAddress(link.hash)) === kindOf(address);
@@ -54,7 +54,7 @@ async function go(isFollowed = false) {
   document.title = `${spelt(head.textContent)} – ${nameOfAll()}`;
   byId('main').replaceChildren(head, ...parts.flat(Infinity).filter(it => it != null && it !== false));
   byId('main').setAttribute('aria-busy', 'false');
-  showPending();
+  if (!isForOrder) showPending();
   if (!isFollowed) return;
   scrollTo(0, 0);
   head.focus();
@@ -76,8 +76,9 @@ byId('sign-out').addEventListener('click', () => {
   go(true);
 });
 onSession(showSession);
-// A view that waits for a person is shown once somebody signed in, also for an order at the top of the page.
-onSession(() => { if (me() && document.querySelector('main .waits')) go(); });
+// A view that waits for a person is shown once somebody signed in, also for an order at the top of the page, whose
+// answer stays there.
+onSession(() => { if (me() && document.querySelector('main .waits')) go(false, true); });
 onDown(isDown => { byId('down').hidden = !isDown; });
 addEventListener('hashchange', () => go(true));
 // A link to the view that is shown shows it anew.
