@@ -156,14 +156,15 @@ class Queue {
     for (const it of this.cards) if (!this.closed.has(it.listed.id)) it.tell();
   }
 
-  // A card's petition is closed: the count follows, and after one's own decision the next one gets the focus.
+  // A card's petition is closed: the count follows, and after one's own decision the next one gets the focus, or else
+  // the one before: on the last one, whose buttons are gone, the keys would be heard no more.
   ended(card, isOwn = true) {
     this.closed.add(card.listed.id);
     card.box.checked = false;
     card.box.disabled = true;
     this.tell();
     this.choose();
-    if (isOwn && !this.isMany) this.step(card, 1)?.focus();
+    if (isOwn && !this.isMany) (this.step(card, 1) ?? this.step(card, -1) ?? card.element).focus();
   }
 
   // The next open card, or the one before.
