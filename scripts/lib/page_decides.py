@@ -36,6 +36,8 @@ def decides(page, stage):
         page.has(text, card(3))
     page.has("1209:0033\tSerial adapter\theld", card(2))
     decide(page, stage, 3, "Grant", "Blinker", "granted 0011 to acme by petition 3", "granted 1209:0011 to acme by petition 3")
+    page.has("1209:0011 is not free: it is held.", card(18))
+    same("who else wants it", "Also wanted" in page.text(card(18)), False)
     page.until(lambda: focused(page) == "Grant petition 4", "the next petition")
     page.has("16 open petitions; 1 petition closed since.", "#count")
     page.press("[aria-label='Grant petition 4']")

@@ -73,6 +73,7 @@ def outlives_a_reload(page, stage):
         page.driver.switch_to.alert.accept()
     page.has("This order has no answer yet. It may have been acted on.", "#pending")
     page.has("ann: Ask for a number", "#pending")
+    page.open("me")
     stage.start()
     key = page.kept()[0]["key"]
     stage.password("ann", "new")
@@ -81,6 +82,9 @@ def outlives_a_reload(page, stage):
     page.has("The name or the password is wrong.", "dialog")
     page.try_to_sign_in("ann", "new")
     page.settles("petition 11")
+    # the view below waited for a person, and the answer stays where it is
+    page.has("All orders")
+    page.has("Done: petition 11.", "#pending")
     same("the key of the order", stage.relay.tries[-1][0], key)
     same("what is kept", page.kept(), [])
 

@@ -38,7 +38,7 @@ def looks(page, stage):
     same("the first view", page.text("h1"), "Numbers of Shared products")
     page.has("65,262 free, 272 reserved, 1 held, 0 returned.")
     same("what curators alone see", page.one("#to-decide").is_displayed(), False)
-    for words, count in (("0033", 1), ("SERIAL", 1), ("boards adapter", 1), ("VID_1209&PID_0033", 1), ("0x0033", 1), ("nothing", 0)):
+    for words, count in (("0033", 1), ("SERIAL", 1), ("boards adapter", 1), ("VID_1209&PID_0033", 1), ("0x0033", 1), ("cafe:0033", 0), ("nothing", 0)):
         page.search(words)
         same(f"a search for {words}", len(page.all("#rows tbody tr")), count)
     page.search("12")
@@ -65,6 +65,9 @@ def looks(page, stage):
                  "do/return?vendor=beef&number=0011", "__proto__", "%", "numbers/beef"):
         page.open(view)
         same(f"the view {view}", page.text("h1"), "No such page")
+    for view, words in (("org/nobody", "No such organisation is enrolled."), ("petition/9999", "There is no such petition.")):
+        page.open(view)
+        same(f"the view {view}", (page.text("h1"), page.text("main p")), ("No such page", words))
     on_the_map(page)
     same("a link to the list without a script", page.run("return fetch('/').then(it => it.text()).then(it => /<noscript>[^]*?href=.\\/list[^]*?<\\/noscript>/.test(it))"), True)
 
@@ -121,8 +124,9 @@ def comes_by_a_link(page, stage):
     same("reports for one number", [it for it in asked() if it.startswith("/reports")], [])
     page.load("org/bobs-boards/")
     page.until(lambda: page.text("h1") == "Bob's boards", "the organisation of an old link")
-    page.load("cafe/")
-    page.until(lambda: page.text("h1") == "Numbers of Cafe boards", "the vendor of an old link")
+    for path in ("cafe/", "CAFE"):
+        page.load(path)
+        page.until(lambda: page.text("h1") == "Numbers of Cafe boards", "the vendor of an old link")
     stage.publish()
     heads = page.run("return fetch('/reports/numbers').then(it => Object.fromEntries(it.headers))")
     same("a report that is a file", (heads.get("content-encoding"), "etag" in heads), ("gzip", True))
