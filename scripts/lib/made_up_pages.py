@@ -13,7 +13,7 @@ VENDOR, FIRST, LAST, HOME = "1209", 0x0011, 0xFFFF, "https://pid.codes/org"
 # The fields of a plain page, and the numbers that rows name besides.
 PLAIN = {"layout": "pid", "title": "Device {at}", "owner": "Acme_Labs", "license": "MIT", "site": "https://example.org/{at}", "source": "https://example.org/{at}/src"}
 TERMS = ("license", "site", "source")
-NAMED = {0xD00D, 0xD01D, 0xD02D, 0xD03D}
+NAMED = {0xD00D, 0xD01D, 0xD02D, 0xD03D, 0xD04D, 0xD05D, 0xD06D, 0xD07D, 0xD08D, 0xD09D, 0xD0AD}
 STATES = {"granted": "held", "imported": "held", "returned": "returned", "reserved": "reserved"}
 
 

@@ -11,6 +11,13 @@ TITLE, SLUG = 200, 32
 ALIASES = os.path.join(os.path.dirname(os.path.abspath(__file__)), "licence_aliases.tsv")
 # Characters that end a line or control a terminal, and those that turn the direction of what follows them.
 CONTROLS, TURNING = "\x00-\x1f\x7f-\x9f\u2028\u2029", "\u202a-\u202e\u2066-\u2069\ufeff"
+# A vendor ID and a product ID, as fields have them: with a stroke or a colon between them, or as Windows writes them. And a product ID
+# alone, which is not the name of a host.
+PAIRS = (
+    re.compile(r"(?<![0-9A-Za-z])(?:0[xX])?([0-9a-fA-F]{4})[/:](?:0[xX])?([0-9a-fA-F]{4})(?![0-9A-Za-z])"),
+    re.compile(r"(?<![0-9A-Za-z])VID_([0-9A-F]{4})&PID_([0-9A-F]{4})(?![0-9A-Z])", re.IGNORECASE),
+)
+SINGLE = re.compile(r"(?<!//)(?<![0-9A-Za-z])(?:0x|PID_)([0-9A-F]{1,4})(?![0-9A-Z])", re.IGNORECASE)
 # What a remark in brackets may say of a licence without changing what it means: the part that it is for.
 REMARKS = set(
     "and bootloader board boards case code design designs docs documentation driver drivers enclosure enclosures files firmware for hardware host layout library "
@@ -53,12 +60,14 @@ def numbers_named(name):
 
 
 def numbers_in(field, text, vendor):
-    """Returns the numbers that a field names, each with its vendor: those of addresses, and what a field `pid` has."""
+    """Returns the numbers that a field names, each with its vendor: as `1209/300a`, `1209:300a`, `VID_1209&PID_300A` or `0x300a`, and in
+    a field `pid` by the digits alone."""
+    named = {(vid.lower(), int(pid, 16)) for pair in PAIRS for vid, pid in pair.findall(text)}
+    rest = PAIRS[1].sub(" ", PAIRS[0].sub(" ", text))
+    alone = SINGLE.findall(rest)
     if field == "pid":
-        said = re.fullmatch(r"(?:0[xX])?([0-9a-fA-F]{4})", text.strip())
-        return {(vendor, int(said[1], 16))} if said else set()
-    said = re.findall(r"(?<![0-9A-Za-z])([0-9a-fA-F]{4})/([0-9a-fA-F]{4})(?![0-9A-Za-z])", text)
-    return {(vid.lower(), int(pid, 16)) for vid, pid in said if int(pid, 16)}
+        alone += [it for it in re.split(r"[\s,;]+", rest) if re.fullmatch("[0-9a-fA-F]{4}", it)]
+    return {it for it in named | {(vendor, int(pid, 16)) for pid in alone} if it[1]}
 
 
 class Licences:
