@@ -236,7 +236,7 @@ def main():
         take_with_tables(mover, made)
         mend_and_take(mover, made, repository)
         write_over(mover, made, repository)
-        commits = commit_each_request(mover, repository, 1000 if "--all" in sys.argv else 20)
+        commits = commit_each_request(mover, made, 1000 if "--all" in sys.argv else 20)
         said = say_a_branch(mover, made, repository)
         compare_with_tables(mover)
     print(

@@ -171,13 +171,13 @@ def carry_times(mover):
     same_lines("the times after both ways", *(lines_of(it for it in rows if it[0] in ("enrol", "grant")) for rows in (carried, kept)))
 
 
-def commit_each_request(mover, repository, count):
+def commit_each_request(mover, made, count):
     """Writes a commit for each request over a clone, also after kills, and compares the pages with those that are written at once.
     Returns how many there are."""
     block, began = mover.block(DAILY), time.strftime(UTC, time.gmtime())
     same("the first commit", mover.runs(block), "1 commits\n")
     before = int(mover.runs("git -C mirror rev-list --count HEAD"))
-    requests, wanted = made_up_requests(mover, count)
+    requests, wanted = made_up_requests(mover, made, count)
     apply(mover.usbreg, mover.path("numbers.db"), write_requests(mover.path("more.jsonl"), requests))
     write(mover.path("record.jsonl"), done([mover.usbreg, "history", mover.path("numbers.db")]).decode())
     words = [f"{USERS}/commit_pages.py", mover.path("record.jsonl"), mover.path("mirror"), mover.path("moved")]
@@ -194,6 +194,7 @@ def commit_each_request(mover, repository, count):
     same("the last run", (status, errors), (0, b""))
     same("the commits at the end", int(mover.runs("git -C mirror rev-list --count HEAD")) - before, wanted)
     same("what is not committed", mover.runs("git -C mirror status --porcelain"), "")
+    same("the page of a number that was returned", os.path.exists(mover.path(f"mirror/{made.path('not withdrawn')}")), False)
     said = mover.runs(f"git -C mirror log -{wanted} --reverse --format='%ad %an:%s' --date=format:{UTC}")
     # one without a time has the time of a run
     heads = [it if it < began else it.replace(it.split()[0], "None") for it in said.splitlines()]
@@ -229,9 +230,10 @@ def compare_trees(mover):
     same("the pages that are committed and those that are written", mover.runs("diff -r -x .git mirror over"), "")
 
 
-def made_up_requests(mover, count):
-    """Returns requests about one organisation and its numbers, which are granted, amended, corrected, returned and revoked, and how
-    many change a page."""
+def made_up_requests(mover, made, count):
+    """Returns requests about one organisation and its numbers, which are granted, amended, corrected, returned and revoked, one that
+    returns a number of before, and how many change a page."""
+    keepers = {name: keeper for _, keeper, name in mover.table("moved/names.tsv")}
     petitions = sum(json.loads(it)["order"] == "ask" for it in history(mover, "numbers.db").splitlines())
     site = "https://daily.example/"
     requests = [{"caller": "daily", "key": "e", "order": "enrol", "org": "daily", "title": "Daily", "site": site}]
@@ -253,6 +255,7 @@ def made_up_requests(mover, count):
         {"caller": "curator-1", "key": "o", "order": "correct-org", "org": "daily", "title": "Every day", "site": site},
         {"caller": "daily", "key": "h", "order": "hand-over", "org": "daily", "keeper": "weekly"},
         {"caller": "weekly", "key": "m", "order": "amend", "number": "e000", "title": "Lamp of every day", **terms},
+        {"caller": keepers["Acme_Labs"], "key": "n", "order": "return", "number": made.number("not withdrawn")},
     ]
     for at, it in enumerate(requests):
         # each seventh is handed in without a time

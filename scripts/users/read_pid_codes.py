@@ -9,7 +9,7 @@ from links import candidates
 from page_text import Page, read
 from pid_codes import is_no, numbers_in, numbers_named, plain_of, title_of
 
-FIELDS = {"org": ("layout", "title", "site"), "pid": ("layout", "title", "owner", "license", "site", "source", "redirect_from", "withdrawn", "revoked", "returned")}
+FIELDS = {"org": ("layout", "title", "site"), "pid": ("layout", "title", "owner", "license", "site", "source", "redirect_from")}
 # The fields of a page that name a number otherwise than its folder does, and those that say that its number is in use no more.
 NAMING, WITHDRAWN = ("pid", "permalink"), ("withdrawn", "revoked", "returned")
 PAGES = (".md", ".markdown", ".html", ".htm", ".textile")
@@ -115,7 +115,8 @@ class Repository:
             self.report.tell(path, "text", size=len(page.text.encode()))
         if others := sorted(set(os.listdir(os.path.dirname(f"{self.top}/{path}"))) - {"index.md"}):
             self.report.tell(path, "files", names=", ".join(others))
-        for field in sorted(set(page.fields) - set(FIELDS[layout])):
+        said = withdrawn_by(page.fields) if layout == "pid" else None
+        for field in sorted(set(page.fields) - {*FIELDS[layout], said}):
             self.report.tell(path, "field", field=field)
 
     def title(self, path, text):
@@ -205,8 +206,7 @@ class Repository:
         """Returns the number of a page, and reports what is changed and lost."""
         self.tell_losses(path, page, "pid")
         taken = Number(path, code, self.title(path, page.fields["title"]), self.owner(path, page.fields["owner"]))
-        field = next((it for it in WITHDRAWN if it in page.fields and not is_no(page.fields[it])), None)
-        if field:
+        if field := withdrawn_by(page.fields):
             taken.withdrawn, taken.by_list = title_of(page.fields[field]) or field, True
             self.report.tell(path, "withdrawn", field=field, why=page.fields[field])
             return taken
@@ -290,6 +290,11 @@ class Repository:
             elif path in pages:
                 self.report.tell(path, "field", field=field)
         return sorted(named)
+
+
+def withdrawn_by(fields):
+    """Returns the field by which a page is withdrawn, or None: `false` and `no` say that it is not."""
+    return next((it for it in WITHDRAWN if it in fields and not is_no(fields[it])), None)
 
 
 def numbers_text(numbers):

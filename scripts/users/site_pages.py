@@ -6,8 +6,8 @@ import re
 from links import Links, candidates
 from move_report import Report
 from page_text import Page, page_of, read, write
-from pid_codes import ALIASES, Licences, is_no, plain_of, title_of
-from read_pid_codes import WITHDRAWN, Number, Repository
+from pid_codes import ALIASES, Licences, plain_of, title_of
+from read_pid_codes import WITHDRAWN, Number, Repository, withdrawn_by
 
 # The fields of a page for those of a number, and the fields that keep a page from being the one of a number.
 FIELDS = {"title": "title", "owner": "org", "license": "licence", "site": "site", "source": "source"}
@@ -82,7 +82,7 @@ class Site:
 
     def hides(self, number, page):
         """Returns whether a page is not the one of its number, though it has its fields."""
-        return self.reader.refusal(number, page) is not None or any(not is_no(page.fields.get(it, "no")) for it in WITHDRAWN)
+        return self.reader.refusal(number, page) is not None or withdrawn_by(page.fields) is not None
 
     def over(self, path, fields, number, same):
         """Returns the bytes of a page with these fields over the one that is there. `same` returns the fields that say that already.
@@ -123,7 +123,7 @@ class Site:
             path = f"{vendor}/{folder}"
         if not known["held"]:
             old = self.pages.get(path)
-            return path, old if old and set(WITHDRAWN) & set(Page(old).fields) else None
+            return path, old if old and withdrawn_by(Page(old).fields) else None
         fields = {name: self.names.name(known["org"]) if name == "owner" else known.get(it) for name, it in FIELDS.items()}
 
         def same(page):
