@@ -35,6 +35,12 @@ ORDERS = [
     {"caller": "ben", "key": "m4", "order": "return", "number": "0013"},
     {"caller": "cora", "key": "m5", "order": "reserve", "first": "0012", "last": "0012"},
 ]
+# Owners without pages, one below the other, and what to do about each.
+ODD_OWNERS = {
+    "A/b": ["name another owner in the page"], "a/B": ["name the right owner in the page"], ".net": ["name another owner in the page"],
+    "index.works": ["name another owner in the page"], "Lamps": ["org/Lamps/index.md"], "LAMPS": ["org/LAMPS/index.md"],
+    '"Lamps "': ["name the right owner in the page"],
+}
 LIST = "1209  Shared\n\t0000  Zero\n\t0010  Fixed\n\t0011  Lamp\n\t0012  Reserved\n\t0013  Owned\n\t0014  \n\t0015  1.10\n\t0015  Doubled\n\tcafe  null\n"
 
 
@@ -121,6 +127,21 @@ def take_with_tables(mover, made):
     shutil.rmtree(mover.path("tables"))
     status, _, errors = run([*words[:-1], write(names, given.replace("\tlou\t", "\tcurator-2\t"))])
     same("a keeper who would be a curator", (status, b"would be a curator" in errors), (1, True))
+
+
+def compare_advice(mover):
+    """What the report says to do can be done: no folder is named by an owner with a stroke, and no vendor by --also that was named so."""
+    pages = {f"{VENDOR}/{at:04x}": owner for at, owner in enumerate(ODD_OWNERS, 0x100)}
+    for path, owner in {**pages, "cafe/0001": "A/b", "beef/0001": "A/b"}.items():
+        os.makedirs(mover.path(f"odd/{path}"))
+        write(mover.path(f"odd/{path}/index.md"), f"---\nlayout: pid\ntitle: Lamp\nowner: {owner}\n---\n")
+    os.makedirs(mover.path("odd/org"))
+    words = [f"{USERS}/take_pid_codes.py", mover.path("odd"), mover.path("advised"), "--program", mover.usbreg, "--also", "cafe=Cafe"]
+    same("moving odd owners", run(words)[::2], (0, b""))
+    told = {(page.removesuffix("/index.md"), what.split(" ")[1]): (outcome, to_do) for page, outcome, what, to_do in mover.table("advised/report.tsv")}
+    owners = [told[path, "owner"] for path in pages]
+    same("what to do about odd owners", [re.findall("org/.*/index.md|name (?:another|the right) owner in the page", it) for _, it in owners], list(ODD_OWNERS.values()))
+    same("what to do about vendors", [(outcome, "--also" in it) for outcome, it in (told["cafe/0001", "vendor,"], told["beef/0001", "vendor,"])], [("reserved", False), ("left out", True)])
 
 
 def change(path, *changes):
@@ -239,6 +260,7 @@ def main():
         commits = commit_each_request(mover, made, 1000 if "--all" in sys.argv else 20)
         said = say_a_branch(mover, made, repository)
         compare_with_tables(mover)
+        compare_advice(mover)
     print(
         f"docs/moving.md: {counts['numbers']['pages']} pages moved in, out and in again, {differing} fields that differ are named, "
         f"{commits} commits, {said} requests of a branch, in {time.monotonic() - began:.0f} s"

@@ -26,6 +26,7 @@ REFUSALS = {
     "layout": ("its layout is {layout}, and not pid", "Write `layout: pid`, if it is the page of a device."),
     "missing": ("it has no {field} that can be taken", "Write what is missing into the page."),
     "vendor": ("its vendor, {vendor}, is not the one that moves", "Nothing. For its numbers name that vendor by --also; they are then reserved."),
+    "vendor there": ("its vendor, {vendor}, is not the one that moves", "Nothing; or let a curator send `release` for a number that is free."),
     "removed": ("its page was removed, {how}", "Nothing; or let a curator send `release`, if the number is free."),
     "reserved there": ("its number is reserved in the registry", "Let a curator send `release`, if the page is right, and run this again."),
     "owned there": ("its number belongs to {org} in the registry", "Mend the owner. A number never changes its owner."),
@@ -60,9 +61,14 @@ REASONS = {
     "alternative": (LOST, "of its licence {written} the alternative {parts} is not known, and not taken", "Nothing; or say what it means by --aliases."),
     "stand-in": (CHANGED, "its licence {written} is taken as {meant}, which --unknown names", "Say what it means by --aliases; or let the keeper send `amend` later."),
     "other owner": (CHANGED, "its owner {owner} is taken as {name}", "Nothing, if they are the same. If not, write the page org/{owner}/index.md."),
+    "other owner, no folder": (CHANGED, "its owner {owner} is taken as {name}", "Nothing, if they are the same. If not, name the right owner in the page."),
     "no page": (
         CHANGED, "its owner {owner} has no page, and is enrolled by that name, with an address below --home as its site",
         "Write the page org/{owner}/index.md; or let the keeper send `amend-org` later.",
+    ),
+    "no page, no folder": (
+        CHANGED, "its owner {owner} has no page, and is enrolled by that name, with an address below --home as its site",
+        "Let the keeper send `amend-org` later; or name another owner in the page, since no folder can have that name.",
     ),
     "slug": (
         CHANGED, "the slug of {name} is {slug}, since {why}",

@@ -8,6 +8,8 @@ import unicodedata
 
 # The most bytes of a title and of a slug.
 TITLE, SLUG = 200, 32
+# The most bytes of the name of a folder.
+FOLDER = 255
 ALIASES = os.path.join(os.path.dirname(os.path.abspath(__file__)), "licence_aliases.tsv")
 # Characters that end a line or control a terminal, and those that turn the direction of what follows them.
 CONTROLS, TURNING = "\x00-\x1f\x7f-\x9f\u2028\u2029", "\u202a-\u202e\u2066-\u2069\ufeff"
@@ -48,6 +50,11 @@ def cut(text, size=SLUG):
 def slug_of(name):
     """Returns the slug of a name: its letters as far as there is room, or `org` if it has none."""
     return cut(letters_of(name)) or "org"
+
+
+def can_be_folder(name):
+    """Returns whether the page of an organisation with this name can stand in a folder of that name."""
+    return "/" not in name and not name.startswith((".", "index.")) and len(name.encode()) <= FOLDER
 
 
 def numbers_named(name):

@@ -7,7 +7,7 @@ import re
 
 from links import candidates
 from page_text import Page, read
-from pid_codes import is_no, numbers_in, numbers_named, plain_of, title_of
+from pid_codes import can_be_folder, is_no, numbers_in, numbers_named, plain_of, title_of
 
 FIELDS = {"org": ("layout", "title", "site"), "pid": ("layout", "title", "owner", "license", "site", "source", "redirect_from")}
 # The fields of a page that name a number otherwise than its folder does, and those that say that its number is in use no more.
@@ -252,10 +252,11 @@ class Repository:
         """Returns the name of the organisation that a page names, which is made if it has no page."""
         owner = " ".join(plain_of(written).split())
         name = owner if owner in self.orgs else next((it for it in self.orgs if it.lower() == owner.lower()), owner)
+        able = can_be_folder(owner)
         if name != written:
-            self.report.tell(path, "other owner", owner=written, name=name)
+            self.report.tell(path, "other owner" if able and owner == written else "other owner, no folder", owner=written, name=name)
         if name not in self.orgs:
-            self.report.tell(path, "no page", owner=owner)
+            self.report.tell(path, "no page" if able else "no page, no folder", owner=owner)
             self.orgs[name] = Organisation(path, title_of(name), has_page=False)
         return name
 
@@ -281,7 +282,8 @@ class Repository:
         for it in self.refused:
             free = {number for number in it.numbers - taken if number[0] in vendors}
             named |= free
-            self.report.refuse(it.page, bool(free), it.kind, **it.details)
+            there = it.kind == "vendor" and it.details["vendor"] in vendors
+            self.report.refuse(it.page, bool(free), "vendor there" if there else it.kind, **it.details)
         pages = {it.page for it in self.numbers.values()}
         for path, field, numbers in self.old_addresses:
             if free := {it for it in numbers - taken if it[0] in vendors}:

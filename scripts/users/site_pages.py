@@ -6,7 +6,7 @@ import re
 from links import Links, candidates
 from move_report import Report
 from page_text import Page, page_of, read, write
-from pid_codes import ALIASES, Licences, plain_of, title_of
+from pid_codes import ALIASES, Licences, can_be_folder, plain_of, title_of
 from read_pid_codes import WITHDRAWN, Number, Repository, withdrawn_by
 
 # The fields of a page for those of a number, and the fields that keep a page from being the one of a number.
@@ -24,7 +24,7 @@ class Names:
             table = f"{moved}/names.tsv" if os.path.isdir(moved) else moved
             for slug, _, name in sorted(rows_of(table), key=lambda it: it[2]):
                 # one that cannot be that of a folder is no name in a site: the slug is, in the pages of its numbers too
-                if "/" not in name and not name.startswith("."):
+                if can_be_folder(name):
                     self.by_name[name], self.by_slug[slug] = slug, name
                     self.by_letters.setdefault(name.lower(), slug)
             if os.path.exists(f"{moved}/numbers.tsv"):
