@@ -27,6 +27,7 @@ from lib.usbreg import EXAMPLES, TOP, apply, content, copy, done, folder, found,
 
 USERS = f"{TOP}/scripts/users"
 SOME_LEFT_OUT = 3
+TERMS = ("licence", "site", "source")
 TAKE, MOVE, NEW, OUT = "What would be taken", "Take it", "Take what is new", "The way out"
 ORDERS = [
     {"caller": "ann", "key": "m1", "order": "enrol", "org": "lamps", "title": "yes", "site": "https://lamps.example/"},
@@ -124,9 +125,21 @@ def take_with_tables(mover, made):
     shutil.rmtree(mover.path("tables"))
     same("a licence for all", run([*words, "--unknown", "NOASSERTION"])[0], SOME_LEFT_OUT)
     same("what comes by lists then", {what.split(" since ")[1].split(" ")[0] for _, of, what, _ in mover.table("tables/report.tsv") if "it comes without" in what}, {"it", "its", "usbreg"})
+    compare_stand_ins(mover, "NOASSERTION")
     shutil.rmtree(mover.path("tables"))
     status, _, errors = run([*words[:-1], write(names, given.replace("\tlou\t", "\tcurator-2\t"))])
     same("a keeper who would be a curator", (status, b"would be a curator" in errors), (1, True))
+
+
+def compare_stand_ins(mover, licence):
+    """A page whose licence, or a part of it, is not known, or that has none, is asked for with this licence and with its links. What is
+    asked for without it stays as it is."""
+    asked, before = ({it["number"]: [it[name] for name in TERMS] for it in mover.requests(f"{top}/requests.jsonl") if it["order"] == "ask"} for top in ("tables", "moved"))
+    fields = mover.fields("pages", VENDOR)
+    by_lists = [(os.path.dirname(page), what) for page, _, what, _ in mover.table("moved/report.tsv") if "it comes without" in what]
+    unknown = [path for path, what in by_lists if "source" in fields[path] and "licence" in what.split(" since ")[1]]
+    wanted = before | {os.path.basename(path).lower(): [licence, fields[path]["site"], fields[path]["source"]] for path in unknown}
+    same("what is asked for with a licence for all", (len(unknown) > 5, asked), (True, wanted))
 
 
 def compare_advice(mover):
