@@ -8,7 +8,8 @@
 # install: puts the program that `make` built into PREFIX/bin, its man page into PREFIX/share/man/man1, and the page for
 #          makers and curators into PREFIX/share/usbreg/web, in the folder VERSION there. Folders of other versions stay.
 # install-service: puts what a service needs beside it: the scripts of contrib/ into PREFIX/lib/usbreg, the files of nginx and of
-#          the firewall and the settings into PREFIX/share/usbreg, the units into UNITS, and the file for logrotate into /etc.
+#          the firewall and the settings into PREFIX/share/usbreg, the scripts for a move into PREFIX/share/usbreg/users, the
+#          units into UNITS, and the file for logrotate into /etc.
 # bench:   reads and writes lists and looks devices up beside plain readers, acts on requests and serves messages
 #          beside plain registries, and prints ratios; times each kind of order on a full store; opens a large store of an
 #          older schema; prints and replays a long record. Not part of the gate; it says which packages are missing.
@@ -61,6 +62,8 @@ install-service:
 	for it in hwdb.awk record_files.py; do put 644 $$it "$(DESTDIR)$(PREFIX)/lib/usbreg"; done; \
 	for it in nginx.conf nginx-between.conf firewall.nft settings; do put 644 $$it "$(DESTDIR)$(PREFIX)/share/usbreg"; done; \
 	for it in $$(cd contrib && ls *.service *.timer); do put 644 $$it "$(DESTDIR)$(UNITS)"; done
+	@set -e; put() { install -D -m "$$1" "$$2" "$(DESTDIR)$(PREFIX)/share/usbreg/$${2#scripts/}"; }; \
+	for it in scripts/users/*.py scripts/users/*.tsv scripts/lib/usbreg.py; do if [ -x $$it ]; then put 755 $$it; else put 644 $$it; fi; done
 	install -D -m 644 contrib/usbreg.logrotate "$(DESTDIR)/etc/logrotate.d/usbreg"
 	install -D -m 644 package/sysusers "$(DESTDIR)$(PREFIX)/lib/sysusers.d/usbreg.conf"
 	install -D -m 644 package/tmpfiles "$(DESTDIR)$(PREFIX)/lib/tmpfiles.d/usbreg.conf"

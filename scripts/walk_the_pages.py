@@ -242,7 +242,7 @@ def checkout(room, package):
     with Registry(room, "checkout", 4) as machine:
         make = "make() { if [ $# != 0 ]; then command make -s PROGRAM=/root/program \"$@\"; fi; }\n"
         machine.put(program(*sys.argv[1:2]), "/root/program")
-        done(["tar", "-C", TOP, "-cf", f"{room}/checkout.tar", "Makefile", "contrib", "man", "package", "web"])
+        done(["tar", "-C", TOP, "-cf", f"{room}/checkout.tar", "Makefile", "contrib", "man", "package", "scripts", "web"])
         machine.put(f"{room}/checkout.tar", "/root/checkout.tar")
         machine.must_run(f"chmod 755 program; tar -xf checkout.tar\n{make}{block('From a checkout')}")
         commands = block("The registry").replace("/usr/share/usbreg", "/usr/local/share/usbreg")

@@ -4,6 +4,7 @@ and the requests that a branch means."""
 import json
 import os
 import random
+import re
 import subprocess
 import sys
 import time
@@ -203,7 +204,24 @@ def commit_each_request(mover, made, count):
     compare_trees(mover)
     compare_callers(mover)
     same("a run with nothing new", run(words, env=mover.env)[1], b"0 commits\n")
+    run_the_unit(mover)
     return wanted
+
+
+def run_the_unit(mover):
+    """Runs the commands of usbreg-pages.service: one more request is committed and pushed. Without a clone nothing is."""
+    again = {"caller": "curator-1", "key": "u", "order": "correct-org", "org": "daily", "title": "Each hour", "site": "https://daily.example/"}
+    apply(mover.usbreg, mover.path("numbers.db"), write_requests(mover.path("unit.jsonl"), [again]))
+    write(mover.path("record.jsonl"), done([mover.usbreg, "history", mover.path("numbers.db")]).decode())
+    mover.runs("git init -q --bare pushed.git; git -C mirror remote set-url --push origin ../pushed.git; git -C mirror push -q")
+    unit = content(f"{TOP}/contrib/usbreg-pages.service").decode()
+    for text, other in (("/usr/local/share/usbreg/", "scripts/"), ("/var/lib/usbreg-record/", "")):
+        unit = unit.replace(text, other)
+    (condition,), (commit,), (push,) = (re.findall(f"^{it}=(.*)$", unit, re.MULTILINE) for it in ("ExecCondition", "ExecStart", "ExecStartPost"))
+    same("a unit without a clone", "names no clone" in mover.runs(f"export PAGES=\n{condition}", 1), True)
+    same("a unit with a clone", mover.runs(f"export PAGES=mirror MOVED=moved\n{condition}\n{commit}\n{push}"), "1 commits\n")
+    same("what is pushed", mover.runs("git -C pushed.git log -1 --format=%H:%s main"), mover.runs("git -C mirror log -1 --format=%H:%s"))
+    same("the last commit", mover.runs("git -C mirror log -1 --format=%s"), "corrected organisation daily\n")
 
 
 def head_of(line):
