@@ -11,6 +11,10 @@ export class Refused extends Error {
   }
 }
 
+// The statuses of what nobody answered but the proxy.
+const UNREACHED = [0, 502, 504];
+export const isUnreached = why => why instanceof Refused && UNREACHED.includes(why.status);
+
 // The milliseconds before each try, where the proxy says that one has to wait; and where nothing came. What says that
 // the server is down has waited for it.
 const BUSY = [0, 1000, 2000, 4000, 8000], LOST = [0, 500];
@@ -39,7 +43,7 @@ function tellDown(it) {
 // Whether the server answered: null where that is not known, as for a file, also one that is missing, and for what the
 // proxy kept.
 function isReached(status, headers) {
-  if ([0, 502, 504].includes(status)) return false;
+  if (UNREACHED.includes(status)) return false;
   const cache = headers.get('cache-status');
   if (cache === 'STALE') return false;
   return status === 204 || headers.has('etag') || cache === 'HIT' || cache === 'UPDATING' ? null : true;

@@ -1,6 +1,6 @@
 // The pages of organisations, and the page of the person that is signed in.
 
-import { isThere } from './asking.js';
+import { isThere, isUnreached } from './asking.js';
 import {
   addressOf, button, choices, counted, facts, h, later, orderLink, orgLink, note, outside, paged, petitionLink,
   searchBar, searchBox, soft, table, written,
@@ -8,7 +8,7 @@ import {
 import { founded, isCurator, known, loaded, numberNow, openPetitions, orgNow, orgsKeptBy } from './registry.js';
 import { HELD } from './vendor.js';
 import { me, signIn } from './session.js';
-import { numbersTable, wish } from './pieces.js';
+import { numbersTable, sayOld, wish } from './pieces.js';
 import { petitionsInRecord } from './record.js';
 
 const PER_PAGE = 100;
@@ -86,13 +86,27 @@ function feedOf(slug) {
   return place;
 }
 
+// What the registry says of an organisation now; while it is down, what the report said.
+async function orgOr(slug) {
+  try {
+    return await orgNow(slug);
+  } catch (why) {
+    if (!isUnreached(why)) throw why;
+    await loaded();
+    if (!known.orgs.has(slug)) throw why;
+    return { org: slug, ...known.orgs.get(slug), isOld: true };
+  }
+}
+
 export async function orgView({ org: slug }) {
   await founded();
-  const got = await orgNow(slug), isKeeper = me()?.name === got.keeper;
+  const got = await orgOr(slug), isKeeper = me()?.name === got.keeper;
   const all = () => past.replaceChildren(allPetitions(slug, isKeeper));
   const past = h('div', {}, button('Show all its petitions', all));
   return [
-    written(got.title), facts(['Short name', got.org], ['Web page', outside(got.site)], ['Keeper', got.keeper]),
+    written(got.title),
+    facts(['Short name', got.org], ['Web page', got.site && outside(got.site)], ['Keeper', got.keeper]),
+    got.isOld && sayOld(),
     isKeeper && forKeeper(slug), isCurator(me()?.name) && forCurator(slug, isKeeper),
     h('h2', {}, 'Numbers'), numbersOf(slug), h('h2', {}, 'Open petitions'), openOf(slug), past, feedOf(slug),
   ];

@@ -1,6 +1,6 @@
 // The numbers of a vendor, searched, and the page of one number.
 
-import { Refused } from './asking.js';
+import { isUnreached } from './asking.js';
 import {
   addressOf, choices, counted, facts, fault, grouped, h, note, numberLink, orderLink, orgLink, paged, searchBar,
   searchBox, select, state, table, written,
@@ -11,7 +11,7 @@ import {
 } from './registry.js';
 import { FREE, HELD, RESERVED, RETURNED, STATES, hex } from './vendor.js';
 import { me } from './session.js';
-import { orgAndKeeper, standingOf, termsOf, vendorChoice } from './pieces.js';
+import { orgAndKeeper, sayOld, standingOf, termsOf, vendorChoice } from './pieces.js';
 import { storyOfNumber } from './record.js';
 
 const PER_PAGE = 50;
@@ -132,7 +132,7 @@ async function numberOr(vid, pid) {
     const got = await numberNow(vid, pid);
     return [got, got.org ? await orgNow(got.org) : null];
   } catch (why) {
-    if (!(why instanceof Refused) || ![0, 502, 504].includes(why.status)) throw why;
+    if (!isUnreached(why)) throw why;
     await loaded();
     const vendor = known.vendors.get(vid), { state: now, owner } = standingOf(vid, pid);
     if (!vendor) throw why;
@@ -152,7 +152,7 @@ export async function numberView({ vendor: vid, number: pid }) {
     `Number ${vid}:${got.number}`,
     facts(['State', state(got.state)], ['Title', got.title == null ? null : written(got.title)],
       ['Organisation', owner && orgAndKeeper(got.org, owner)], ...termsOf(got)),
-    got.isOld && note('The registry is down: this is what the last reports said.'),
+    got.isOld && sayOld(),
     got.org && got.licence == null && !got.isOld && note('It was imported without licence, web page and source.'),
     got.state === 'returned' && note('Only its owner can get it again.'),
     deeds(got, vid, owner),

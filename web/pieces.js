@@ -30,6 +30,9 @@ export function standingOf(vid, digits) {
   return { state: STATES[vendor?.states[pid] ?? 0], owner: vendor?.owners[pid] ?? '' };
 }
 
+// What stands where the registry could not be asked.
+export const sayOld = () => note('The registry is down: this is what the last reports said.');
+
 // The number that a petition wants, and where all numbers are known what it is now.
 export const wish = it => it.want ? numberLink(it.vid, it.want) : `any number of ${it.vid}`;
 export function wishNow(petition) {

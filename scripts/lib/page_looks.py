@@ -185,6 +185,9 @@ def finds_the_server_down(page, stage):
          "The registry is down for the moment. What is shown may be old, and orders have to wait.")
     page.open("numbers")
     page.has("1 held")
+    page.open("org/bobs-boards")
+    for text in ("Keeper\nbob", "The registry is down: this is what the last reports said.", "1209:0033\tSerial adapter\theld"):
+        page.has(text)
     stage.start()
     page.open("number/1209/0033")
     page.has("https://bob.example/s at bob.example")

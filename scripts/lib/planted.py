@@ -149,6 +149,8 @@ SLOW = (
     ("an upgrade that nobody sees", "comes_again", ("usbreg.conf", "default no-cache;", "default max-age=31536000;")),
     ("old links that lead nowhere", "comes_by_a_link",
      ("address.js", "return number ? `#/number", "return '' && number ? `#/number")),
+    ("an organisation that nobody sees while the server is down", "finds_the_server_down",
+     ("makers.js", "if (!isUnreached(why)) throw why;", "throw why;")),
     ("a server that is down and not said to be", "finds_the_server_down",
      ("page.js", "byId('down').hidden = !isDown;", "")),
     ("a founding that goes with the server", "finds_the_server_down",
