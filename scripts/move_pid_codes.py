@@ -27,6 +27,8 @@ from lib.usbreg import EXAMPLES, TOP, apply, content, copy, done, folder, found,
 
 USERS = f"{TOP}/scripts/users"
 SOME_LEFT_OUT = 3
+# Of so many requests with --all, a thousand change a page.
+MANY = 1100
 TERMS = ("licence", "site", "source")
 TAKE, MOVE, NEW, OUT = "What would be taken", "Take it", "Take what is new", "The way out"
 ORDERS = [
@@ -270,7 +272,7 @@ def main():
         take_with_tables(mover, made)
         mend_and_take(mover, made, repository)
         write_over(mover, made, repository)
-        commits = commit_each_request(mover, made, 1000 if "--all" in sys.argv else 20)
+        commits = commit_each_request(mover, made, MANY if "--all" in sys.argv else 20)
         said = say_a_branch(mover, made, repository)
         compare_with_tables(mover)
         compare_advice(mover)
