@@ -85,7 +85,9 @@ def opened(page, view):
 
 
 def views(page):
-    """Yields each view with what is told of it, and a function that asks for it anew."""
+    """Yields each view with what is told of it, and a function that asks for it anew. The proxy keeps reports for a while, and the
+    page what it read for a minute, so no report is to be older than the last order."""
+    time.sleep(KEPT)
     for who, of in (("ann", MAKERS), (CURATOR, CURATORS)):
         page.load()
         page.sign_in(who)
@@ -123,7 +125,6 @@ def is_heard(page, stage):
 
 
 def writes_heard(page, stage):
-    """Writes what a screen reader is told, where the reports are as old as they get."""
-    time.sleep(KEPT)
+    """Writes what a screen reader is told."""
     found = [(name, again()) for name, again in views(page)]
     write(HEARD, HEAD + "".join(f"\n== {name}\n" + "".join(f"{line}\n" for line in lines) for name, lines in found))
