@@ -49,12 +49,16 @@ function isReached(status, headers) {
   return status === 204 || headers.has('etag') || cache === 'HIT' || cache === 'UPDATING' ? null : true;
 }
 
-// The text of a response, or nothing if `hear` is told it piece by piece, as it comes.
+// The text of a response, or nothing if `hear` is told it piece by piece, as it comes. The cache of a browser gives
+// megabytes at once: they are told in parts of so many bytes.
+const PART = 1 << 16;
 async function textOf(response, hear) {
   if (!hear || response.status !== 200) return response.text();
   const pieces = response.body.getReader(), decoder = new TextDecoder();
   for (let it = await pieces.read(); !it.done; it = await pieces.read()) {
-    hear(decoder.decode(it.value, { stream: true }));
+    for (let at = 0; at < it.value.length; at += PART) {
+      await hear(decoder.decode(it.value.subarray(at, at + PART), { stream: true }));
+    }
   }
   return '';
 }
@@ -76,7 +80,8 @@ async function askOnce(path, hear) {
 async function ask(path, hearing) {
   let waits = BUSY, got;
   for (let at = 0; at < waits.length; at += 1) {
-    await pause(waits[at]);
+    // even a wait of no time is one for all that the page has to do
+    if (waits[at]) await pause(waits[at]);
     got = await askOnce(path, hearing?.());
     if (got.status === 200) return got;
     if (got.status === 0) waits = LOST;

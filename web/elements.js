@@ -9,8 +9,15 @@ export function h(tag, attributes = {}, ...children) {
     if (name.startsWith('on')) element.addEventListener(name.slice(2), value);
     else element.setAttribute(name, value === true ? '' : value);
   }
-  element.append(...children.flat(Infinity).filter(it => it != null && it !== false));
+  add(element, children);
   return element;
+}
+
+function add(element, children) {
+  for (const it of children) {
+    if (Array.isArray(it)) add(element, it);
+    else if (it != null && it !== false) element.append(it);
+  }
 }
 
 export const byId = id => document.getElementById(id);

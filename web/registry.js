@@ -1,6 +1,6 @@
 // What the page knows of the registry: its founding, its organisations, and each number of each vendor.
 
-import { clock, read, readDated } from './asking.js';
+import { clock, pause, read, readDated } from './asking.js';
 import { readNumbers, readOrganisations, readPetitions, readReply } from './reading.js';
 import { Vendor } from './vendor.js';
 
@@ -30,22 +30,22 @@ async function readFounding() {
   for (const it of news) it.put();
 }
 
-// The numbers of vendors, as they come in pieces of the report. `enough` is called once many of them are there.
+// The numbers of vendors, as they come in pieces of the report. Once many of them are there, `enough` is waited for.
 const MANY = 1000;
 class Numbers {
   constructor(enough) {
     Object.assign(this, { vendors: new Map(), enough, rest: '', count: 0 });
   }
 
-  hear(piece) {
-    const end = piece.lastIndexOf('\n') + 1, lines = end ? this.rest + piece.slice(0, end) : '';
+  async hear(piece) {
+    const end = piece.lastIndexOf('\n') + 1, lines = end ? this.rest + piece.slice(0, end) : '', before = this.count;
     this.rest = end ? piece.slice(end) : this.rest + piece;
     for (const { vid, pid, state, owner, title } of readNumbers(lines)) {
       if (!this.vendors.has(vid)) this.vendors.set(vid, new Vendor(vid));
       this.vendors.get(vid).put(pid, state, owner, title);
       this.count += 1;
-      if (this.count === MANY) this.enough(this.vendors);
     }
+    if (before < MANY && this.count >= MANY) await this.enough(this.vendors);
   }
 }
 
@@ -66,6 +66,8 @@ async function readAll() {
     put(it, vendors);
     for (const it of news) it.put();
     tellMany();
+    // a view is shown before the others are read
+    await pause(0);
   };
   const hearing = () => {
     numbers = new Numbers(enough);

@@ -7,12 +7,22 @@ export const hex = pid => pid.toString(16).padStart(4, '0');
 
 export class Vendor {
   constructor(vid, name = '') {
-    const texts = () => new Array(ALL).fill('');
-    Object.assign(this, { vid, name, states: new Uint8Array(ALL), owners: texts(), titles: texts(), text: null });
+    Object.assign(this, { vid, name, states: new Uint8Array(ALL), last: 0, text: null });
   }
 
+  // Texts for all numbers are made once they are asked for: most vendors of a founding are replaced by those of a report.
+  get owners() {
+    return this.allOwners ??= new Array(ALL).fill('');
+  }
+
+  get titles() {
+    return this.allTitles ??= new Array(ALL).fill('');
+  }
+
+  // The greatest number that was put is `last`: those after it are free.
   put(pid, state, owner = '', title = '') {
     this.states[pid] = STATES.indexOf(state);
+    this.last = Math.max(this.last, pid);
     if (this.owners[pid] === owner && this.titles[pid] === title) return;
     this.owners[pid] = owner;
     this.titles[pid] = title;
@@ -59,7 +69,8 @@ export class Vendor {
   search(words, states, orgs) {
     if (words.length) this.prepare(orgs);
     const wanted = words.map(word => this.having(word)), found = [];
-    for (let pid = 1; pid < ALL; pid += 1) {
+    const end = states.includes(FREE) ? ALL : this.last + 1;
+    for (let pid = 1; pid < end; pid += 1) {
       if (states.includes(this.states[pid]) && wanted.every(has => has[pid])) found.push(pid);
     }
     return found;
