@@ -10,7 +10,7 @@ import {
 } from './registry.js';
 import { me } from './session.js';
 import { Decision, reasonInput } from './decision.js';
-import { aboutPetition, numbersTable, standingOf, termsOf, vendorChoice, wishNow } from './pieces.js';
+import { aboutPetition, numbersTable, standingOf, termsOf, vendorChoice, wish, wishNow } from './pieces.js';
 import { follow } from './entries.js';
 import { openInFiles } from './record.js';
 import { readReply } from './reading.js';
@@ -62,16 +62,20 @@ class Card {
     this.decision = new Decision(petition, {
       ended: () => this.queue.ended(this), refused: refusal => this.refused(refusal),
     });
-    waiting.replaceWith(h('div', { class: 'both' }, h('div', {}, about, this.decision.element),
+    waiting.replaceWith(h('div', { class: 'both' }, h('div', {}, about, this.decision.element, this.end),
       h('div', {}, h('h3', {}, 'Its other numbers'), numbersTable(petition.org, OTHERS))));
     if (petition.state !== 'open') this.close(petition);
     else if (document.activeElement === this.element) this.focus();
   }
 
-  // Says anew what the wanted number is and who else wants it, if that is not what stands there.
+  // Says anew what the wanted number is and who else wants it, if that is not what stands there. Of a closed petition
+  // that matters no more.
   tell() {
-    const { listed, queue } = this;
-    const told = { warned: h('div', {}, warnings(listed, queue.stillOpen())), wants: h('span', {}, wishNow(listed)) };
+    const { listed, queue } = this, isClosed = queue.closed.has(listed.id);
+    const told = {
+      warned: h('div', {}, isClosed ? [] : warnings(listed, queue.stillOpen())),
+      wants: h('span', {}, isClosed ? wish(listed) : wishNow(listed)),
+    };
     for (const [name, it] of Object.entries(told)) {
       if (it.textContent === this[name].textContent) continue;
       this[name].replaceWith(it);
@@ -80,16 +84,24 @@ class Card {
   }
 
   // The petition was closed by somebody else.
-  close({ state, by, reason }) {
-    const told = by ? `It was ${state} by ${by}` : `It is ${state}`;
-    this.end.replaceChildren(...(reason ? [`${told}: `, written(reason)] : [`${told}.`]));
+  close(how) {
+    const isHere = this.element.contains(document.activeElement);
+    this.say(how);
     this.decision?.end();
     this.queue.ended(this, false);
+    // its buttons are gone: the keys are heard on
+    if (isHere) this.element.focus();
+  }
+
+  say({ state, by, reason }) {
+    const told = by ? `It was ${state} by ${by}` : `It is ${state}`;
+    this.end.replaceChildren(...(reason ? [`${told}: `, written(reason)] : [`${told}.`]));
   }
 
   async refused({ refused }) {
-    if (refused !== 7) return;
-    this.close(await petitionNow(this.listed.id));
+    const { id, vid, want } = this.listed;
+    if (refused === 7) this.close(await petitionNow(id));
+    else if (want) await numberNow(vid, want).then(() => this.queue.tell(), () => { /* a view asks again */ });
   }
 
   // Chooses the card: its first button, once that is there.
@@ -153,7 +165,7 @@ class Queue {
     const decided = this.closed.size ? `; ${counted(this.closed.size, 'petition')} closed since` : '';
     const told = isAll ? '' : `; ${this.found().length} found`;
     this.count.textContent = `${counted(open, 'open petition')}${told}${words}${decided}.`;
-    for (const it of this.cards) if (!this.closed.has(it.listed.id)) it.tell();
+    for (const it of this.cards) it.tell();
   }
 
   // A card's petition is closed: the count follows, and after one's own decision the next one gets the focus, or else
@@ -204,18 +216,25 @@ class Queue {
     for (const it of ready) if (it.decision.isOpen) await it.decision.send(kind, { reason: input?.value });
     this.isMany = false;
     this.count.scrollIntoView();
+    ready[0]?.element.focus({ preventScroll: true });
   }
 
-  // What somebody else decided, as the record tells.
+  // What somebody else did, as the record tells: to wanted numbers, and to petitions.
   heard({ order, petition, caller, reason, done }) {
+    const { vendor = foundingVendor(), number, first = number, last = number } = readReply(done) ?? {};
+    const isTouched = ({ vid, want }) => vid === vendor && first <= want && want <= last;
+    const touched = new Set(this.cards.map(it => it.listed).filter(isTouched).map(it => it.want));
+    for (const it of touched) numberNow(vendor, it).then(() => this.tell(), () => { /* a view asks again */ });
     if (!ENDS[order]) return;
     noteClosed(petition);
-    if (this.closed.has(petition)) return;
-    const { vendor = foundingVendor(), number } = readReply(done) ?? {};
-    if (number) numberNow(vendor, number).then(() => this.tell(), () => { /* a view asks again */ });
+    const card = this.cards.find(it => it.listed.id === petition), how = { state: ENDS[order], by: caller, reason };
+    // closed by a refusal, which names nobody
+    if (this.closed.has(petition)) {
+      if (card?.end.hasChildNodes()) card.say(how);
+      return;
+    }
     if (!this.open.some(it => it.id === petition)) return;
-    const card = this.cards.find(it => it.listed.id === petition);
-    if (card) card.close({ state: ENDS[order], by: caller, reason });
+    if (card) card.close(how);
     else {
       this.closed.add(petition);
       this.tell();

@@ -60,10 +60,14 @@ export class Decision {
 
   // Sends the order, with what is given, and says whether the petition is decided.
   async send(kind, given) {
+    const had = document.activeElement;
     this.disable(true);
     const got = await order(orderOf(kind, { petition: this.petition.id, ...given }), this.place);
     if (got.done != null) this.end();
-    else this.disable(false);
+    else {
+      this.disable(false);
+      if (this.buttons.contains(had)) had.focus();
+    }
     if (got.done != null) this.ended(kind);
     else if (got.refusal) this.refused(got.refusal);
     return got.done != null;
@@ -81,5 +85,5 @@ export class Decision {
 }
 
 // The decision on a petition, if it is a curator's to decide.
-export const decision = petition =>
-  isCurator(me()?.name) ? new Decision({ vid: foundingVendor(), ...petition }) : { element: null };
+export const decision = (petition, told) =>
+  isCurator(me()?.name) ? new Decision({ vid: foundingVendor(), ...petition }, told) : { element: null };

@@ -48,7 +48,10 @@ async function go(isFollowed = false, isForOrder = false) {
     else link.removeAttribute('aria-current');
   }
   byId('main').setAttribute('aria-busy', 'true');
+  // the proxy holds a question for a while if the server is down
+  const slow = setTimeout(() => { if (mine === turn) byId('main').prepend(note('It is read …')); }, 1000);
   const [heading, ...parts] = await viewNow(address);
+  clearTimeout(slow);
   if (mine !== turn) return;
   const head = h('h1', { tabindex: -1 }, heading);
   document.title = `${spelt(head.textContent)} – ${nameOfAll()}`;

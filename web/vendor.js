@@ -10,7 +10,8 @@ export class Vendor {
     Object.assign(this, { vid, name, states: new Uint8Array(ALL), last: 0, text: null });
   }
 
-  // Texts for all numbers are made once they are asked for: most vendors of a founding are replaced by those of a report.
+  // Texts for all numbers are made once they are asked for: most vendors of a founding are replaced by those of a
+  // report.
   get owners() {
     return this.allOwners ??= new Array(ALL).fill('');
   }

@@ -109,6 +109,7 @@ def decides_on_many(page, stage):
     tries = stage.relay.tries[before:]
     same("what was sent", [body for _, body, _ in tries], [f'{{"order":"decline","petition":{it},"reason":"Not now"}}' for it in (10, 11)])
     same("the keys", len({key for key, _, _ in tries}), 2)
+    same("where the keys are heard after several", focused(page), "Petition 10")
     stage.orders(OTHER, "y12", {"order": "grant", "petition": 12})
     page.has(f"It was granted by {OTHER}.", card(12))
     stage.orders(OTHER, "y14", {"order": "decline", "petition": 14, "reason": "Ask elsewhere"})
@@ -122,6 +123,8 @@ def decides_on_many(page, stage):
     page.yes()
     page.answer("This petition is closed already.")
     same("how it is shown", page.one(".answer").get_attribute("class"), "answer fault")
+    page.has("State\ndeclined")
+    same("what is offered then", [it.text for it in page.all("main .buttons button")], [])
 
 
 def by_its_form(page):
