@@ -9,3 +9,4 @@ pub mod LineLemmas
 pub mod WholeLemmas
 pub mod ValidLemmas
 pub mod DigestLemmas
+pub mod MachineLemmas

@@ -1,3 +1,4 @@
 pub mod Exports
 pub mod Imports
+pub mod Machines
 pub mod Records

@@ -1,8 +1,10 @@
-//! Laws of lists that are exported, and then read or imported, and of the lines of a record.
+//! Laws of lists that are exported, and then read or imported, of the lines of a record, and of
+//! registries whose records begin one log.
 #![tactic(auto)]
 
 ghost use Rattle.registry_laws.specs.Exports.{ReadsAsItself, IsReadBack};
 ghost use Rattle.registry_laws.specs.Imports.{TakesOver, CompletesList, GivesSameList};
+ghost use Rattle.registry_laws.specs.Machines.{BeginsWithAppended, HaveEachRequest, HaveOneHistory, HaveOneOwner};
 ghost use Rattle.registry_laws.specs.Records.{ReadsAccepted, ReadsFoundingLine, HasOwnLine, HasOwnFoundingLine, IsDigestOfRecord, KeepsValid, KeepsWholeHistory};
 
 /// The text of an exported list is the text of that list.
@@ -70,4 +72,27 @@ pub fn is_digest_of_record()
 /// one of them that it is valid.
 pub fn keeps_valid()
     ensures { KeepsValid }
+{}
+
+/// If the records of two registries begin one log, one of the two has the history of the other, or
+/// goes on from it.
+pub fn have_one_history()
+    ensures { HaveOneHistory }
+{}
+
+/// If the records of two registries begin one log, and a number has an owner on both, it is the same.
+pub fn have_one_owner()
+    ensures { HaveOneOwner }
+{}
+
+/// If the record of a registry begins a log, and has as many lines as the log up to that of an
+/// accepted request, that request is in its history.
+pub fn have_each_request()
+    ensures { HaveEachRequest }
+{}
+
+/// If the record of a registry begins a log, and the log takes the line of its next deed under the
+/// next number, the record with that deed begins the log from then on.
+pub fn begins_with_appended()
+    ensures { BeginsWithAppended }
 {}
