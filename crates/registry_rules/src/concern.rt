@@ -1,6 +1,6 @@
 //! The vendor, the numbers and the organisation that an order concerns.
 
-ghost use Rattle.std.specs.Prelude.{◌≡◌, true, IsSomeAnd, option_and_then};
+ghost use Rattle.std.specs.Prelude.{◌≡◌, true, IfSome, IsSomeAnd, option_and_then};
 ghost use Rattle.std.specs.Option.{option_copied, option_map};
 ghost use Rattle.usbnum_core.specs.Spans.{span_has};
 ghost use Rattle.usbnum_core.specs.declared.number.Number.{Number};
@@ -72,9 +72,10 @@ pub fn vid_concerned(order: &Order, founding: Vid, petition: Option<&Petition>) 
     }
 }
 
-/// Returns a span that has each number that the order concerns, with its vendor. An order on a span
-/// and an import concern none by itself. `vid` is the vendor that the order concerns, `petition` the
-/// petition that it names, and `least` the least free product ID of that petition's vendor.
+/// Returns the span of the numbers that the order concerns, and no others, with their vendor, or
+/// None if it concerns no number. An order on a span and an import concern none by itself. `vid` is
+/// the vendor that the order concerns, `petition` the petition that it names, and `least` the least
+/// free product ID of that petition's vendor.
 #[tactic(auto, unfolding(crate::specs::FactsOf::concerns, crate::specs::FactsOf::petition_named, crate::specs::FactsOf::vendor_concerned))]
 pub fn numbers_concerned(
     order: &Order,
@@ -82,8 +83,10 @@ pub fn numbers_concerned(
     petition: Option<&Petition>,
     least: Option<Pid>,
 ) -> Option<VendorSpan>
-    ensures { (h : History) → vid ≡ vendor_concerned h order.now → option_copied petition.entry ≡ petition_named h order.now → least ≡ least_for h (petition_named h order.now) →
+    ensures all { (h : History) → vid ≡ vendor_concerned h order.now → option_copied petition.entry ≡ petition_named h order.now → least ≡ least_for h (petition_named h order.now) →
         (n : Number) → concerns h order.now n ≡ true → IsSomeAnd result (λ range. (range.vid ≡ n.vid) × (span_has range.span n.pid ≡ true)) }
+    ensures only { (h : History) → vid ≡ vendor_concerned h order.now → option_copied petition.entry ≡ petition_named h order.now → least ≡ least_for h (petition_named h order.now) →
+        (n : Number) → IfSome result (λ range. range.vid ≡ n.vid → span_has range.span n.pid ≡ true → concerns h order.now n ≡ true) }
 {
     let span = match order {
         Order::Ask(it) => only(it.want?),
