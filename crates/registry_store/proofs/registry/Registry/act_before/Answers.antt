@@ -1,0 +1,16 @@
+use Rattle.std.proofs.Common.{sym, ◌∙◌}
+use Rattle.registry_store.proofs.IsQueryLemmas.{not_met}
+use Rattle.registry_store.proofs.TransactionLemmas.{leaves_one}
+use Rattle.registry_store.proofs.registry.Registry.act_before.Goals as goal
+
+pub returns-in-Ok-Ok-clause-witnessed : goal.returns-in-Ok-Ok-clause-witnessed
+returns-in-Ok-Ok-clause-witnessed g c h stands clean = leaves_one _ _ _ _ _ c.attempt.ensures.survives h stands.legal_with stands.at clean
+
+pub returns-in-Ok-Err-clause-witnessed : goal.returns-in-Ok-Err-clause-witnessed
+returns-in-Ok-Err-clause-witnessed g c h stands clean = leaves_one _ _ _ _ _ c.attempt.ensures.survives h stands.legal_with stands.at clean
+
+pub returns-in-Err-clause-witnessed : goal.returns-in-Err-clause-witnessed
+returns-in-Err-clause-witnessed g c h stands clean = leaves_one _ _ _ _ _ c.attempt.ensures.survives h stands.legal_with stands.at clean
+
+pub returns-in-Err-clause-notes : goal.returns-in-Err-clause-notes
+returns-in-Err-clause-notes g c = sym (not_met c.args.self.now c.from-fault.result (sym c.is_poisoned.ensures ∙ c.if-is_poisoned.false))
