@@ -1,5 +1,6 @@
 -- How the calls of a transaction compose.
-use Rattle.std.proofs.Common.{◌≡◌, ◌≢◌, inl, inr, ℕ, IsTrue, true, false, refl, sym, ap, subst, ◌∙◌, arith, List, Result, Ok, Err, OnOk, IfOk}
+use Rattle.std.proofs.Common.{◌≡◌, ◌≢◌, inl, inr, ℕ, IsTrue, true, false, refl, sym, ap, subst, ◌∙◌, arith, ◌⊎◌, List, Result, Ok, Err, OnOk, IfOk}
+use Rattle.std.specs.Prelude.{IfErr, OnErr}
 use Rattle.sqlite.specs.Tree.{Trees}
 use Rattle.sqlite.specs.Store.{Ghosts}
 use Rattle.sqlite.specs.State.{State, HasCleanDisk, Survives, Shows, IsLive, IsRolledBack}
@@ -25,17 +26,28 @@ use Rattle.registry_rules.specs.Verdict.{verdict}
 use Rattle.registry_rules.specs.Reply.{act_text}
 use Rattle.registry_rules.proofs.RunLemmas.{legal_new, legal_after_one, new_is_of}
 use Rattle.registry_tables.specs.Rows.{Rows, HoldsRows, HoldsUnkept, newest}
-use Rattle.registry_tables.specs.Calls.{IsKeptAs}
+use Rattle.registry_tables.specs.Calls.{IsKeptAs, KeepsAll}
 use Rattle.registry_tables.specs.Finds.{Finds}
 use Rattle.registry_tables.proofs.RowsLemmas.{enters, goes_out}
 use Rattle.registry_schema.specs.declared.fault.TableFault.{TableFault}
 use Rattle.registry_store.specs.declared.attempt.Answer.{Answer}
-use Rattle.registry_store.specs.Promise.{IsLegalWith, IsAt}
-use Rattle.registry_store.specs.Attempt.{CommitsOne, AddsNoDeed, Wrote, IsAnswerOf, Answered, new_answer}
+use Rattle.registry_store.specs.Promise.{IsAt, IsLegalWith, Leaves}
+use Rattle.registry_store.specs.Attempt.{AddsNoDeed, Answered, AsksIfNew, CommitsOne, IfNew, IsAnswerOf, Wrote, new_answer}
+use Rattle.registry_store.specs.Witness.{Hears, WasSeen}
 use Rattle.registry_store.proofs.OpeningLemmas.{rows_now}
 
 abbrev Goes : State → State → Type 0
 Goes old new = Shows old new new.now old.committed true
+
+-- what holds of a result holds of its value
+pub ok_of : {A E : Type 0} (P : A → Type 0) {v : Result A E} {it : A} → v ≡ Ok it → IfOk v P → P it
+ok_of P is holds = subst (λ x. IfOk x P) is holds
+
+pub err_of : {A E : Type 0} (P : E → Type 0) {v : Result A E} {e : E} → v ≡ Err e → IfErr v P → P e
+err_of P is holds = subst (λ x. IfErr x P) is holds
+
+pub on_err_of : {A E P : Type 0} {v : Result A E} {e : E} → v ≡ Err e → OnErr v P → P
+on_err_of {A} {E} {P} is holds = subst (λ x. OnErr x P) is holds
 
 -- two writes, one after the other
 module _ (old mid new : State) (before after : Summary) (r : Request) (d : Deed) (changes : List Change) (reply : List ℕ) (said : reply ≡ act_text d.act)
@@ -93,6 +105,39 @@ never_foreign g old begun mid end is live before none first ends clean h counts 
     let is_open : IsTrue (state g old).is_open = subst (λ b. IsTrue (state g b).is_open) is it.0 in
     it.1 h counts.legal (subst (λ b. HoldsRows newest (state g b).now h) (sym is) (enters (state g old) h live is_open (rows_now (state g old) h at start_old is_open)))
 
+-- the witness is asked about what is new to the history whose rows the connection showed
+pub asked_of : {S : Type 0} (g : Ghosts S) (old begun mid : Held S) → begun ≡ record old { in_transaction = true } → IsLive (state g old) → (before : Summary) (r : Request) {W : Type 0} (was is : W) (Heard : Deed → Type 0)
+    → (HasCleanDisk (state g mid) → IsTrue (state g begun).in_transaction → AsksIfNew was is (state g begun) before r Heard)
+    → CommitsNothing (state g begun) (state g mid)
+    → HasCleanDisk (state g mid) → (h : History) → IsLegalWith before h → IsAt newest (state g old) h → (is ≡ was) ⊎ ((d : Deed) × (verdict h r ≡ New d) × Heard d)
+asked_of g old begun mid same live before r was is Heard asks first clean h counts at =
+    let start : HasCleanDisk (state g begun) = omega (arith, first.clean) in
+    let start_old : HasCleanDisk (state g old) = subst (λ b. HasCleanDisk (state g b)) same start in
+    elim (asks clean (subst (λ b. IsTrue (state g b).in_transaction) (sym same) refl)) [
+      | inl not ↦ inl not
+      | inr it ↦
+          let is_open : IsTrue (state g old).is_open = subst (λ b. IsTrue (state g b).is_open) same it.0 in
+          inr (it.1 h counts (subst (λ b. HoldsRows newest (state g b).now h) (sym same) (enters (state g old) h live is_open (rows_now (state g old) h at start_old is_open))))
+    ]
+
+-- a transaction that wrote and was rolled back leaves all as it was
+pub keeps_all : {S : Type 0} (g : Ghosts S) (old begun mid end : Held S) → begun ≡ record old { in_transaction = true } → Goes (state g begun) (state g mid) → IsRolledBack (state g mid) (state g end) → KeepsAll (state g old) (state g end)
+keeps_all g old begun mid end is goes back still =
+    let was : IsTrue (state g old).is_open = subst (λ b. IsTrue (state g b).is_open) is goes.was_open in
+    let same : (state g mid).committed ≡ (state g old).committed = subst (λ b. (state g mid).committed ≡ (state g b).committed) is goes.committed_is in
+    let undone = back.undone still in
+    (was, undone.0 ∙ same, undone.1 ∙ same)
+
+-- a crash leaves the history before the request, or the one after it, and then this holds of its reply
+pub leaves_one : (old new : State) (before : Summary) (r : Request) (Seen : Reply → Type 0) → Survives old new (CommitsOne old before r Seen) → (h : History) → IsLegalWith before h → IsAt newest old h → HasCleanDisk new
+    → Leaves newest new (λ x. (x ≡ h) ⊎ ((x ≡ after_one h r) × Seen (reply_to h r)))
+leaves_one old new before r Seen survives h counts at clean db may =
+    let early : HasCleanDisk old = omega (arith, survives.clean) in
+    elim (survives.crash clean db may) [
+      | inl earlier ↦ let it = at.left early db earlier in (it.0, inl it.1, it.2)
+      | inr one ↦ let it = one.1 h counts (rows_now old h at early one.0) in (after_one h r, inr (refl, it.1), it.0)
+    ]
+
 -- a verdict that is no new deed leaves the history as it is
 stays : (h : History) (v : Verdict) → ((d : Deed) → v ≢ New d) → after_verdict h v ≡ h
 stays h (Kept text) none = refl
@@ -134,11 +179,45 @@ module _ (old mid : State) (before : Summary) (r : Request) (v : Verdict) (judge
         };
   }
 
-  -- if they are written
-  pub accepts : (last : State) (after : Summary) (d : Deed) → v ≡ New d → (result : Result Answer TableFault) → OnOk result (Wrote mid last before after r d) → IfOk result (λ answer. answer ≡ new_answer d)
-      → IfOk result (Answered old last before after r)
-  accepts last after d new (Ok answer) wrote is = subst (λ x. Answered old last before after r x) (sym is) (answers_new last after d new wrote (act_text d.act) refl)
+  -- if they are written, and the witness saw the request
+  pub accepts : {Y : Type 0} (last : State) (after : Summary) (d : Deed) → v ≡ New d → (result : Result (Result Answer Y) TableFault) → IfOk result (λ it. OnOk it (Wrote mid last before after r d))
+      → IfOk result (λ it. IfOk it (λ answer. answer ≡ new_answer d)) → IfOk result (λ it. IfOk it (Answered old last before after r))
+  accepts last after d new (Ok (Ok answer)) wrote is = subst (λ x. Answered old last before after r x) (sym is) (answers_new last after d new wrote (act_text d.act) refl)
+  accepts last after d new (Ok (Err why)) wrote is = tt
   accepts last after d new (Err e) wrote is = tt
+
+  -- the witness is asked only then
+  pub asks_if_new : {W : Type 0} (was is : W) (Heard : Deed → Type 0) (d : Deed) → v ≡ New d → Heard d → AsksIfNew was is old before r Heard
+  asks_if_new was is Heard d new heard = inr (judged.0.was_open, λ h counts held. let it = judged.1 h counts.legal held in (d, sym (it.1 counts.totals_are) ∙ new, heard))
+
+-- what the witness was told
+module _ {W Y : Type 0} (saw : W → W → Request → List ℕ → Type 0) (missed : W → W → Request → List ℕ → Y → Type 0) (was is : W) (r : Request) (d : Deed) where
+  pub sees : (result : Result (Result Answer Y) TableFault) → Hears saw missed was is r (act_text d.act) result → IfOk result (λ it. IfOk it (λ answer. answer ≡ new_answer d))
+      → IfOk result (λ it. IfOk it (IfNew (WasSeen saw was is r)))
+  sees (Ok (Ok answer)) heard same = subst (IfNew (WasSeen saw was is r)) (sym same) (λ _. (act_text d.act, refl, heard))
+  sees (Ok (Err why)) heard same = tt
+  sees (Err e) heard same = tt
+
+  pub misses : (result : Result (Result Answer Y) TableFault) → Hears saw missed was is r (act_text d.act) result → IfOk result (λ it. IfErr it (λ why. (text : List ℕ) × missed was is r text why))
+  misses (Ok (Ok answer)) heard = tt
+  misses (Ok (Err why)) heard = (act_text d.act, heard)
+  misses (Err e) heard = tt
+
+-- a reply that was seen is the one to the deed
+pub saw_deed : {W : Type 0} (saw : W → W → Request → List ℕ → Type 0) (was is : W) (r : Request) (h : History) (d : Deed) (reply : Reply) → reply ≡ reply_to h r → verdict h r ≡ New d → WasSeen saw was is r reply
+    → saw was is r (act_text d.act)
+saw_deed saw was is r h d reply said new seen =
+    let same : Done seen.0 ≡ Done (act_text d.act) = sym seen.1 ∙ (said ∙ ap reply_of new) in
+    let text : seen.0 ≡ act_text d.act = cc same in
+    subst (saw was is r) text seen.2
+
+-- a transaction that goes on
+pub goes_then : (a b c : State) → Goes a b → Goes b c → Goes a c
+goes_then a b c first second = record { was_open = first.was_open; is_open = second.is_open; now_is = refl; committed_is = second.committed_is ∙ first.committed_is; mode = second.mode }
+
+pub goes_on_then : {A F : Type 0} (a b c : State) → Goes a b → (result : Result A F) → OnOk result (Goes b c) → OnOk result (Goes a c)
+goes_on_then a b c first (Ok it) second = goes_then a b c first second
+goes_on_then a b c first (Err e) second = tt
 
 -- the answer with the reply of a deed is the one to its request
 abbrev answer_with : List ℕ → Answer
@@ -168,27 +247,27 @@ module _ {S : Type 0} (g : Ghosts S) (old begun last : Held S) (is : begun ≡ r
   pub said_of : HasCleanDisk (state g last) → (h : History) → IsLegalWith before h → IsAt newest (state g old) h → IsAnswerOf h r it after (state g last).now
   said_of clean h counts at = (answered clean).of_history h counts (holds h (was_open clean) (rows_now (state g old) h at (was_clean clean) (was_open clean)))
 
-  commits_one : HasCleanDisk (state g last) → CommitsOne (state g old) before r (state g last).now.trees
-  commits_one clean = (was_open clean, λ h counts rows. goes_out (state g last).now (after_one h r) ((answered clean).of_history h counts (holds h (was_open clean) rows)).rows)
+  commits_one : (Seen : Reply → Type 0) → Seen it.reply → HasCleanDisk (state g last) → CommitsOne (state g old) before r Seen (state g last).now.trees
+  commits_one Seen seen clean = (was_open clean, λ h counts rows. let says = (answered clean).of_history h counts (holds h (was_open clean) rows) in (goes_out (state g last).now (after_one h r) says.rows, subst Seen says.reply seen))
 
-  module _ (end : Held S) (third : Survives (state g last) (state g end) (λ db. db ≡ (state g last).now.trees)) where
+  module _ (Seen : Reply → Type 0) (seen : Seen it.reply) (end : Held S) (third : Survives (state g last) (state g end) (λ db. db ≡ (state g last).now.trees)) where
     -- over the whole call a crash leaves what it left before, or what the request commits
-    pub one_at_most : Survives (state g old) (state g end) (CommitsOne (state g old) before r)
+    pub one_at_most : Survives (state g old) (state g end) (CommitsOne (state g old) before r Seen)
     one_at_most =
         let outer = survives_begin g old (state g last) _ (subst (λ b. CommitsNothing (state g b) (state g last)) is first) in
         let given = λ (clean : HasCleanDisk (state g end)) (db : Trees) (same : db ≡ (state g last).now.trees).
         let late : HasCleanDisk (state g last) = omega (arith, third.clean) in
-        subst (CommitsOne (state g old) before r) (sym same) (commits_one late) in
-        quiet_to (state g old) (state g last) (state g end) _ (CommitsOne (state g old) before r) given outer third
+        subst (CommitsOne (state g old) before r Seen) (sym same) (commits_one Seen seen late) in
+        quiet_to (state g old) (state g last) (state g end) _ (CommitsOne (state g old) before r Seen) given outer third
 
     -- so nothing was committed for a request that adds no deed
     pub never_here : it.is_new ≡ true → (h : History) → IsLegalWith before h → IsAt newest (state g old) h → AddsNoDeed h r → CommitsNothing (state g old) (state g end)
     never_here new h counts at none =
-        let never = λ (clean : HasCleanDisk (state g end)) (db : Trees) (one : CommitsOne (state g old) before r db).
+        let never = λ (clean : HasCleanDisk (state g end)) (db : Trees) (one : CommitsOne (state g old) before r Seen db).
         let late : HasCleanDisk (state g last) = omega (arith, third.clean) in
         let added = (said_of late h counts at).adds new in
         none added.0 added.1 in
-        survives_weaker (state g old) (state g end) (CommitsOne (state g old) before r) (λ _. ⊥) never one_at_most
+        survives_weaker (state g old) (state g end) (CommitsOne (state g old) before r Seen) (λ _. ⊥) never one_at_most
 
     -- after a successful commit
     pub committed : (settled : (s : S) (db : Trees) → IsTrue (g.view s).is_open → g.recovers s db → db ≡ (g.view s).committed)

@@ -12,3 +12,5 @@ mod stopped;
 mod stops;
 #[cfg(test)]
 mod whole;
+#[cfg(test)]
+mod witness;
