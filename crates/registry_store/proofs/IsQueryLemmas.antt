@@ -10,8 +10,7 @@ use Rattle.registry_schema.specs.declared.fault.TableFault.{TableFault}
 use Rattle.registry_schema.specs.declared.fault.TableFault.TheVariants as tables
 use Rattle.registry_rules.specs.History.{History}
 use Rattle.registry_rules.specs.Run.{Legal}
-use Rattle.table_laws.specs.Inside.{CommitsNothing}
-use Rattle.registry_tables.specs.Calls.{IsForeign, IsLookUp, KeepsAll}
+use Rattle.registry_tables.specs.Calls.{IsForeign, IsLookUp}
 use Rattle.registry_tables.specs.Rows.{newest}
 use Rattle.registry_store.specs.declared.fault.Fault.{Fault}
 use Rattle.registry_store.specs.declared.fault.Fault.TheVariants as of
@@ -59,22 +58,17 @@ noted it new same fault is =
     ap (λ (b : Bool). is_foreign (poisoned_by new) || b) is
     ∙ (swap (is_foreign (poisoned_by new)) (is_foreign fault) it.foreign ∙ ap (λ (f : Option Fault). is_foreign fault || (is_foreign f || it.foreign)) same)
 
--- a registry that was not poisoned, over a connection that shows what it showed
-pub untouched_by : {S : Type 0} {g : Ghosts S} {it new : Registry S g} → is_poisoned it ≡ false → new.summary ≡ it.summary → poisoned_by new ≡ poisoned_by it
-    → (HasCleanDisk (state_of new) → KeepsAll (state_of it) (state_of new)) → CommitsNothing (state_of it) (state_of new) → IsUntouched it new
-untouched_by {S} {g} {it} {new} sound summary fault same quiet = record {
-  stays = λ h stands. record {
-    not_poisoned = ap (λ (f : Option Fault). is_some f) fault ∙ sound;
-    legal_with = subst (λ t. IsLegalWith t h) (sym summary) stands.legal_with;
-    at = still_at (state_of it) (state_of new) h stands.at same quiet;
-  };
-  poisons_nothing = ap (λ (f : Option Fault). is_some f) fault;
-  survives = quiet;
-}
-
 module _ {S : Type 0} {g : Ghosts S} {it new : Registry S g} {A : Type 0} {Is : History → A → Type 0} (sound : is_poisoned it ≡ false) (totals : new.summary ≡ it.summary) (fault : poisoned_by new ≡ poisoned_by it) where
   left : (found : Result A TableFault) → IsLookUp (state_of it) (state_of new) found Is → IsUntouched it new
-  left found looked = untouched_by sound totals fault looked.same looked.survives
+  left found looked = record {
+    stays = λ h stands. record {
+      not_poisoned = ap (λ (f : Option Fault). is_some f) fault ∙ sound;
+      legal_with = subst (λ t. IsLegalWith t h) (sym totals) stands.legal_with;
+      at = still_at (state_of it) (state_of new) h stands.at looked.same looked.survives;
+    };
+    poisons_nothing = ap (λ (f : Option Fault). is_some f) fault;
+    survives = looked.survives;
+  }
 
   found_by : (found : A) → IsLookUp (state_of it) (state_of new) (Ok found) Is → new.foreign ≡ it.foreign → IsQuery it new (Ok found) Is
   found_by found looked note = record {

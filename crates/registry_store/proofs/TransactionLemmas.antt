@@ -8,8 +8,7 @@ use Rattle.sqlite.specs.Held.{Held, state}
 use Rattle.sqlite.proofs.StateLemmas.{survives_then, survives_weaker}
 use Rattle.sqlite.proofs.Callers.{survives_begin}
 use Rattle.table_laws.specs.Inside.{CommitsNothing}
-use Rattle.registry_tables.specs.Head.{IsHead, IsSummaryOf}
-use Rattle.registry_tables.specs.declared.head.Head.{Head}
+use Rattle.registry_tables.specs.Head.{IsHead}
 use Rattle.registry_tables.specs.declared.opening.Summary.{Summary}
 use Rattle.registry_rules.specs.declared.order.Request.{Request}
 use Rattle.registry_rules.specs.declared.deed.Deed.{Deed}

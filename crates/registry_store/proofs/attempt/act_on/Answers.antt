@@ -1,4 +1,4 @@
-use Rattle.std.proofs.Common.{◌∙◌, inl, refl, sym, ap, arith}
+use Rattle.std.proofs.Common.{◌∙◌, sym, ap, arith}
 use Rattle.sqlite.specs.State.{HasCleanDisk}
 use Rattle.sqlite.specs.Held.{state}
 use Rattle.registry_rules.specs.Run.{reply_of}
@@ -27,10 +27,10 @@ returns-in-New-clause-goes_on g c clean inside =
     goes_on_then (state g.S.Store c.args.tx.now.conn.now) (state g.S.Store mid) (state g.S.Store c.accept.new.tx.conn.now) found.0 c.accept.result (c.accept.ensures.goes_on clean found.0.mode found.0.is_open)
 
 pub returns-in-New-clause-missed : goal.returns-in-New-clause-missed
-returns-in-New-clause-missed g c = misses _ g.W.Witness.missed _ _ _ c.in-New.deed c.accept.result c.accept.ensures.heard
+returns-in-New-clause-missed g c = misses g.W.Witness.saw g.W.Witness.missed c.args.witness.now c.accept.new.witness c.args.request.now c.in-New.deed c.accept.result c.accept.ensures.heard
 
 pub returns-in-New-clause-seen : goal.returns-in-New-clause-seen
-returns-in-New-clause-seen g c = sees _ g.W.Witness.missed _ _ _ c.in-New.deed c.accept.result c.accept.ensures.heard c.accept.ensures.answer
+returns-in-New-clause-seen g c = sees g.W.Witness.saw g.W.Witness.missed c.args.witness.now c.accept.new.witness c.args.request.now c.in-New.deed c.accept.result c.accept.ensures.heard c.accept.ensures.answer
 
 pub returns-in-New-clause-asked : goal.returns-in-New-clause-asked
 returns-in-New-clause-asked g c clean inside =

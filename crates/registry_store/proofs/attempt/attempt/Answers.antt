@@ -57,21 +57,24 @@ returns-in_err-commit-clause-no_deed g c h counts at none =
 
 pub returns-clause-asked : goal.returns-clause-asked
 returns-clause-asked g c clean h counts at =
-    let late : HasCleanDisk (state g.S.Store c.act_on.new.tx.conn.now) = omega (arith, clean, c.commit.ensures.survives.clean) in
+    let end : HasCleanDisk (state g.S.Store c.commit.new.tx.0) = search rules in
+    let late : HasCleanDisk (state g.S.Store c.act_on.new.tx.conn.now) = omega (arith, end, c.commit.ensures.survives.clean) in
     asked_of g.S.Store c.args.conn.now c.transaction-tx.result.conn.now c.act_on.new.tx.conn.now c.transaction-tx.ensures.begun c.schema-schema.ensures.live c.args.summary.now c.args.request.now c.args.witness.now c.act_on.new.witness _
     (rw c.in-Ok.is at c.in_ok-answer.ensures.asked) c.act_on.ensures.survives late h counts at
 
 pub returns-in_err-commit-clause-asked : goal.returns-in_err-commit-clause-asked
 returns-in_err-commit-clause-asked g c clean h counts at =
-    let late : HasCleanDisk (state g.S.Store c.act_on.new.tx.conn.now) = omega (arith, clean, c.commit.ensures.survives.clean) in
-    let is : c.from_residual.result ≡ Err c.in_err-commit.field-0.0 = search rules in
+    let end : HasCleanDisk (state g.S.Store c.commit.new.tx.0) = search rules in
+    let late : HasCleanDisk (state g.S.Store c.act_on.new.tx.conn.now) = omega (arith, end, c.commit.ensures.survives.clean) in
+    let is : c.from_residual-in_err-commit.result ≡ Err c.in_err-commit.field-0.0 = search rules in
     rw is (elim (asked_of g.S.Store c.args.conn.now c.transaction-tx.result.conn.now c.act_on.new.tx.conn.now c.transaction-tx.ensures.begun c.schema-schema.ensures.live c.args.summary.now c.args.request.now c.args.witness.now c.act_on.new.witness _
     (rw c.in-Ok.is at c.in_ok-answer.ensures.asked) c.act_on.ensures.survives late h counts at) [ inl not ↦ inl not | inr it ↦ inr (it.0, it.1, inr it.2) ])
 
 pub returns-clause-seen : goal.returns-clause-seen
 returns-clause-seen g c clean h deed counts at new_deed =
     let new : c.in-Ok.answer.is_new ≡ true = search rules in
-    let late : HasCleanDisk (state g.S.Store c.act_on.new.tx.conn.now) = omega (arith, clean, c.commit.ensures.survives.clean) in
+    let end : HasCleanDisk (state g.S.Store c.commit.new.tx.0) = search rules in
+    let late : HasCleanDisk (state g.S.Store c.act_on.new.tx.conn.now) = omega (arith, end, c.commit.ensures.survives.clean) in
     let says = said_of g.S.Store c.args.conn.now c.transaction-tx.result.conn.now c.act_on.new.tx.conn.now c.transaction-tx.ensures.begun c.schema-schema.ensures.live c.args.summary.now c.act_on.new.summary
     c.args.request.now c.in-Ok.answer (λ clean inside. ok_of _ c.in-Ok.is (c.in_ok-answer.ensures.ok clean inside)) c.act_on.ensures.survives late h counts at in
     let seen = ok_of _ c.in-Ok.is c.in_ok-answer.ensures.seen new in
