@@ -1,6 +1,6 @@
 // The orders that a person may give, as one table: the words for each, its fields with the rules that can be checked
-// while one types, and its reply. Forms, links and the reading of replies come from it, and so do their tests. The
-// registry checks all rules again.
+// while one types, and its reply. Forms, their addresses and the reading of replies come from it, and so do the tests
+// of these. The registry checks all rules again.
 
 const bytesOf = text => new TextEncoder().encode(text).length;
 

@@ -67,6 +67,7 @@ test('each field takes what the registry takes, and says what is wrong', () => {
     assert.equal(valueIn(field, right), right, field.name);
   }
   for (const [kind, [, ...wrong]] of Object.entries(KINDS)) for (const it of wrong) assert.notEqual(check(kind, it), '', it);
+  assert.equal(check('id', '00AB'), '');
   assert.equal(valueIn({ kind: 'id' }, ' 1209:11. '), '0011');
   assert.equal(valueIn({ kind: 'title' }, ' x'), ' x');
   assert.equal(valueIn({ kind: 'slug' }, ' x'), 'x');
@@ -81,8 +82,14 @@ test('the reply to each order is read', () => {
     assert.deepEqual(readReply(text), Object.assign({ deed: deed.trim() }, ...parts), text);
     for (const none of [`${text} `, ` ${text}`, `${text}\n`]) assert.equal(readReply(none), null, none);
   }
-  // those of the page for callers
-  for (const { name, reply } of rows) assert.equal(readReply(reply) !== null, ORDERS[name].reply !== null, reply);
+  // what is read of those of docs/requests.md makes them again
+  const number = it => `${it.vendor ? `${it.vendor}:` : ''}${it.number ?? `${it.first}-${it.last}`}`;
+  const texts = { number, span: number, org: it => it.org, keeper: it => it.keeper, petition: it => `petition ${it.petition}` };
+  for (const { name, reply } of rows) {
+    const read = readReply(reply), form = ORDERS[name].reply;
+    if (form === null) assert.equal(read, null, reply);
+    else assert.equal(form.replace(/\{(\w+)\}/g, (_, part) => texts[part](read)), reply);
+  }
   const grant = { deed: 'granted', vendor: 'cafe', number: '00ab', org: 'acme', petition: '12' };
   assert.deepEqual(readReply('granted cafe:00ab to acme by petition 12'), grant);
   const span = { deed: 'released', vendor: undefined, first: '2010', last: '2010' };
