@@ -43,6 +43,11 @@ def shown(text):
             yield words, example[len(words) :]
 
 
+def orders():
+    """Returns the table of orders of docs/requests.md: the name of each, its fields, and a reply as an example."""
+    return re.findall(r"^\| `([a-z-]+)` \| ([a-z?, ]+) \| `([^`]+)` \|$", page("docs/requests.md"), re.MULTILINE)
+
+
 def links(text):
     """Returns the relative links of a page, without what follows a #."""
     return [it for it, _ in targets(text) if it]
