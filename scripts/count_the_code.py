@@ -11,7 +11,6 @@ import argparse
 import collections
 import re
 import subprocess
-import sys
 from pathlib import Path
 
 # A type that stands as the error of a result, wherever a signature names it.
