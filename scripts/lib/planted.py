@@ -200,6 +200,8 @@ TABLES = (
      ("reading.js", "(any|[0-9a-f]{4}) +([^]*)$/", "(any|[0-9a-f]{4})  ([^]*)$/")),
     ("an order without a field", "node", ("orders.js", "[vendor, number, ...terms]", "[number, ...terms]")),
     ("a reply that is not read", "node", ("orders.js", "'released {span}'", "null")),
+    ("a reply that is cut", "node", ("reading.js", "new RegExp(`^${written.join('')}$`)", "new RegExp(`^${written.join('')}`)")),
+    ("a petition that stays open", "node", ("orders.js", "sure('Withdraw this petition?', ends('withdrawn'))", "sure('Withdraw this petition?')")),
     ("a stop behind a number", "node", ("orders.js", ".replace(/[.,;/]+$/, '')", "")),
     ("a place that is one further", "node", ("reading.js", "Number(line.slice(0, at)) - 1", "Number(line.slice(0, at))")),
     ("numbers that are put twice after a cut", "node", ("registry.js", "    numbers = new Numbers(enough);\n", "    numbers ??= new Numbers(enough);\n")),
