@@ -11,7 +11,7 @@ import subprocess
 import sys
 
 from lib.cases import Room
-from lib.usbreg import EXAMPLES, FOUNDING, content, folder, opened, program, run, seal, tables, write
+from lib.usbreg import EXAMPLES, FOUNDING, content, folder, opened, program, run, seal, tables
 
 TEN = f"{EXAMPLES}/ten.jsonl"
 REPLIES = [f'{{"done":"enrolled o{number}"}}\n' for number in range(1, 11)]

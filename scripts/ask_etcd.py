@@ -24,6 +24,7 @@ import tempfile
 import time
 
 from lib.serving import HOST, free_port
+from lib.stopping import kill
 from lib.usbreg import TOP
 
 ROWS = f"{TOP}/crates/etcd_messages_tests"
@@ -56,10 +57,7 @@ class Members:
         return self
 
     def __exit__(self, *_):
-        for process in self.processes:
-            process.send_signal(signal.SIGCONT)
-            process.kill()
-            process.wait()
+        kill(*self.processes)
 
     def post(self, index, path, text, token=None):
         """Posts a text to a member, and returns the status and the body of its answer."""

@@ -24,7 +24,7 @@ from lib.requests import Chance, all_cases, requests_in
 from lib.serving import serving
 from lib.usbreg import (
     ENDINGS, EXAMPLES, PAGE_SIZE, apply, content, copy, done, folder, found, older, opened, program, put_rows, remove, rounds, run,
-    same, seal, write, write_requests,
+    same, write, write_requests,
 )
 
 IN_CHANCE = 2_000

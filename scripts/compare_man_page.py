@@ -14,7 +14,7 @@ import re
 import shutil
 import sys
 
-from lib.pages import section
+from lib.pages import orders, section
 from lib.usbreg import EXAMPLES, TOP, content, done, program, run
 
 # What each command's help has, and the page has once.
@@ -67,8 +67,7 @@ def blocks(page):
 
 def forms():
     """Returns the fields of each order in the first table of docs/requests.md, as the page shows them."""
-    rows = re.findall(r"^\| `([a-z-]+)` \| ([a-z, ?]+) \| `", content(f"{TOP}/docs/requests.md").decode(), re.MULTILINE)
-    told = "".join(f"{order:<12} {fields}\n" for order, fields in rows)
+    told = "".join(f"{order:<12} {fields}\n" for order, fields, _ in orders())
     return re.sub(r"(\w+)[?]", r"[\1]", told)
 
 

@@ -32,7 +32,7 @@ from lib.requests import Chance, all_cases, enrol, request, requests_in
 from lib.serving import command, exchange, get, serving
 from lib.stopping import killed
 from lib.usbreg import (
-    EXAMPLES, FOUNDING, content, done, folder, found, older, opened, program, remove, rounds, run, tables, write,
+    EXAMPLES, FOUNDING, done, folder, found, older, opened, program, remove, rounds, run, same, tables, write,
     write_requests,
 )
 
@@ -43,11 +43,6 @@ MOST = 4_194_304
 ROOM_FOR_A_LINE = 65_536
 STOPS = 20
 BAD_JSON = '{"name":"BadJson","refused":27}'
-
-
-def same(what, there, wanted):
-    if there != wanted:
-        sys.exit(f"{what}: {str(there)[:2000]} and not {str(wanted)[:2000]}")
 
 
 def lines_in(text):

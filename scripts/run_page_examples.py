@@ -13,11 +13,10 @@ repository. What a page needs and is not installed is said, and the page is skip
 import glob
 import json
 import os
-import re
 import shutil
 import sys
 
-from lib.pages import Shell, blocks, broken_links, page, section, shown
+from lib.pages import Shell, blocks, broken_links, orders, page, section, shown
 from lib.usbreg import TOP, content, done, folder, program, run, same
 
 # The programs that a page needs beside `usbreg`.
@@ -51,16 +50,15 @@ def run_page(usbreg, name, text):
 def run_requests(usbreg):
     """Acts on the request lines below the table of orders in docs/requests.md, and returns how many there are. Each is
     accepted, each order of the table is there, and so is each reply."""
-    text = page("docs/requests.md")
-    table = re.findall(r"^\| `([a-z-]+)` \| [a-z?, ]+ \| `([^`]+)` \|$", text, re.MULTILINE)
-    lines = blocks(text, "")[0]
+    table = [(order, reply) for order, _, reply in orders()]
+    lines = blocks(page("docs/requests.md"), "")[0]
     status, said, errors = run([usbreg, "trial"], lines.encode())
     same("the status of the requests in docs/requests.md", (status, errors), (0, b""))
-    orders, replies = ([json.loads(it).get(name) for it in those.splitlines()] for name, those in (("order", lines), ("done", said.decode())))
-    same("the orders of docs/requests.md", set(orders), {order for order, _ in table})
-    same("the replies of docs/requests.md", [it for it in table if it not in zip(orders, replies)], [])
+    given, replies = ([json.loads(it).get(name) for it in those.splitlines()] for name, those in (("order", lines), ("done", said.decode())))
+    same("the orders of docs/requests.md", set(given), {order for order, _ in table})
+    same("the replies of docs/requests.md", [it for it in table if it not in zip(given, replies)], [])
     same("requests of docs/requests.md that are refused", replies.count(None), 0)
-    return len(orders)
+    return len(given)
 
 
 def run_helps(usbreg):

@@ -10,18 +10,15 @@ is read in `lib/causes_of_inputs.py`.
 Usage: scripts/say_what_failed.py [PROGRAM], by default the one that `make` builds. Needs a C compiler. The exit status
 is 0 if all of this holds."""
 
-import contextlib
 import os
-import pty
-import select
 import socket
-import subprocess
 import sys
-import time
 
 from lib.causes import FILE, STORE, Cases, named
 from lib.causes_of_inputs import INPUTS
 from lib.causes_of_stores import STORES
+from lib.serving import serving
+from lib.terminal import through_terminal
 from lib.usbreg import folder, found, program, run
 
 
@@ -37,60 +34,24 @@ def try_arguments(cases):
         cases.count += 1
 
 
-@contextlib.contextmanager
-def served(usbreg, store, port):
-    """Serves the store while the block runs."""
-    server = subprocess.Popen([usbreg, "serve", store, "--port", str(port)], stderr=subprocess.DEVNULL)
-    try:
-        for _ in range(200):
-            with contextlib.suppress(ConnectionRefusedError), socket.create_connection(("127.0.0.1", port), 1):
-                break
-            time.sleep(0.05)
-        yield
-    finally:
-        server.kill()
-        server.wait()
-
-
 def try_others(cases):
     """Another process that has the store, or the port."""
     with socket.create_server(("127.0.0.1", 0)) as taken:
         port = taken.getsockname()[1]
         cases.case(["serve", "CASE/numbers.db", "--port", str(port)], 1, "fault: socket\n", f"port {port}: in use by another process")
     store = found(cases.usbreg, f"{cases.room}/served.db")
-    with served(cases.usbreg, store, port):
+    with serving(cases.usbreg, store, port=port).up():
         cases.case(["export", store], 1, STORE, f"{store}: in use by another process")
-
-
-def through_terminal(words, awaited=b""):
-    """Returns what a program writes to a terminal as its standard error. If words are awaited there, the terminal is its
-    standard input too, and ends once they came."""
-    ours, theirs = pty.openpty()
-    ran = subprocess.Popen(words, stdin=theirs if awaited else subprocess.DEVNULL, stdout=subprocess.DEVNULL, stderr=theirs)
-    try:
-        os.close(theirs)
-        said = b""
-        with contextlib.suppress(OSError):
-            while select.select([ours], [], [], 60)[0] and (more := os.read(ours, 4096)):
-                said += more
-                if awaited and awaited in said:
-                    os.write(ours, b"\x04")
-                    awaited = b""
-        return said.replace(b"\r\n", b"\n").decode()
-    finally:
-        ran.kill()
-        ran.wait()
-        os.close(ours)
 
 
 def try_terminals(cases):
     """A terminal has the causes unasked, and a trial that reads one says so."""
     missing = f"{cases.room}/none.db"
-    said = through_terminal([cases.usbreg, "export", missing])
+    *_, said = through_terminal([cases.usbreg, "export", missing])
     if said != named(FILE, f"{missing}: no such file"):
         sys.exit(f"to a terminal: {said!r}")
     asks = "usbreg: request lines are read from the terminal; Ctrl-D ends them"
-    said = through_terminal([cases.usbreg, "trial"], asks.encode())
+    *_, said = through_terminal([cases.usbreg, "trial"], asks.encode())
     if f"{asks}\n" not in said:
         sys.exit(f"a trial from a terminal: {said!r}")
     cases.count += 2

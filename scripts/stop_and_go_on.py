@@ -14,7 +14,7 @@ import sys
 import tempfile
 import time
 
-from lib.stopping import kept, killed, look
+from lib.stopping import killed, stopped
 from lib.usbreg import folder, found, program, rounds, tables, write_requests
 
 ENROLMENTS = 1500
@@ -42,18 +42,9 @@ def main():
         began = time.monotonic()
         wanted, _ = apply_until(usbreg, other, lines, 0)
         whole = time.monotonic() - began
-
-        replies, count, between = [], 0, 0
-        while count < stops and len(replies) < len(asked):
-            # from the start, before anything is acted on, to a few dozen requests later
-            printed, was_killed = apply_until(usbreg, store, lines, len(replies), random.uniform(0, 0.2 + 2 * whole / stops))
-            replies += printed
-            if was_killed:
-                count += 1
-                look(store, room, asked, replies)
-                between += len(kept(store, room)) > len(replies)
-        printed, _ = apply_until(usbreg, store, lines, len(replies))
-        replies += printed
+        # from the start, before anything is acted on, to a few dozen requests later
+        longest = 0.2 + 2 * whole / max(1, stops)
+        replies, count, between = stopped(stops, longest, store, room, asked, lambda *at: apply_until(usbreg, store, lines, *at))
         if replies != wanted:
             sys.exit("the replies are not those of a run without stops")
         if tables(store) != tables(other):

@@ -12,15 +12,11 @@ end the tables are those of a run without stops.
 Usage: scripts/talk_to_the_desk.py [STOPS [PROGRAM]], by default 20 stops of the program that `make` builds. If curl is not
 installed it says so and skips only what needs it. The exit status is 0 if all of this holds."""
 
-import contextlib
 import hashlib
 import json
-import os
-import random
 import resource
 import shutil
 import signal
-import subprocess
 import sys
 import threading
 import time
@@ -28,8 +24,9 @@ import time
 from lib.desk_orders import ENROL, ENROLLED, LINK, ask, asked
 from lib.desk_refusals import TIME, Desk, each_refusal, fields
 from lib.plain_history import History
-from lib.serving import PATIENCE, TEXT, command, connected, done, exchange, free_port, get, message, post, read_to_end, refused, response, serving
-from lib.stopping import kept, look
+from lib.serving import TEXT, command, connected, done, exchange, free_port, get, message, post, read_to_end, refused, response, serving
+from lib.stopping import stopped
+from lib.terminal import through_terminal
 from lib.usbreg import FOUNDING, REPORTS, apply, done as printed, folder, found, program, rounds, run, same, tables, write, write_requests
 
 # The most lines of a page of the record.
@@ -250,16 +247,6 @@ def full(usbreg, room):
     return len(answered)
 
 
-def at_a_terminal(words):
-    """Returns what a program prints whose standard error is a terminal."""
-    ours, its = os.openpty()
-    same("at a terminal", subprocess.run(words, stdout=subprocess.PIPE, stderr=its, check=True, timeout=PATIENCE).stdout, b"")
-    os.close(its)
-    with open(ours, "rb", buffering=0) as terminal, contextlib.suppress(OSError):
-        return terminal.read(1000)
-    return b""
-
-
 def ends(usbreg, room):
     """Tries a count of 0, a port that is taken, a store that is already open or does not exist, and a terminal."""
     store, other = (found(usbreg, f"{room}/{name}.db") for name in ("store", "other"))
@@ -276,7 +263,8 @@ def ends(usbreg, room):
     words = [usbreg, "serve", f"{room}/none.db", "--port", "8080"]
     same("no store", run(words), (1, b"", b"fault: file\n"))
     port = str(free_port())
-    same("at a terminal", at_a_terminal([usbreg, "serve", store, "--port", port, "--count", "0"]), f"listening on 127.0.0.1:{port}\r\n".encode())
+    ended = through_terminal([usbreg, "serve", store, "--port", port, "--count", "0"])
+    same("at a terminal", ended, (0, b"", f"listening on 127.0.0.1:{port}\n"))
     if tables(store) != before:
         sys.exit("a server that acted on nothing changed its store")
 
@@ -312,17 +300,19 @@ def killed(usbreg, room, stops):
     response."""
     requests = list(rounds(1, ROUNDS))
     wanted, seconds, other = unstopped(usbreg, room, requests)
-    store, replies, between = found(usbreg, f"{room}/killed.db"), [], 0
-    for _ in range(stops):
+    store = found(usbreg, f"{room}/killed.db")
+
+    def go_on(answered, after):
         with serving(usbreg, store).up() as server:
-            killer = threading.Timer(random.uniform(0, 2 * seconds / stops), server.process.kill)
-            killer.start()
-            replies += bodies(server, requests[len(replies):])
-            killer.join()
-        look(store, room, requests, replies)
-        between += len(kept(store, room)) > len(replies)
-    with serving(usbreg, store).up() as server:
-        replies += bodies(server, requests[len(replies):])
+            killer = threading.Timer(after, server.kill) if after is not None else None
+            if killer:
+                killer.start()
+            replies = list(bodies(server, requests[answered:]))
+            if killer:
+                killer.join()
+        return replies, killer is not None
+
+    replies, _, between = stopped(stops, 2 * seconds / max(1, stops), store, room, requests, go_on)
     if replies != wanted or tables(store) != tables(other):
         sys.exit("replies or tables are not those of a run without stops")
     return f"{stops} stops in {len(requests)} commands, {between} of them between a commit and its response"

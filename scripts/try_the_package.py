@@ -21,26 +21,17 @@ import shutil
 import stat
 import sys
 
+from lib.packaged import made
 from lib.pages import OPERATING, block, links
 from lib.serving import Serving, done as reply, command, exchange, free_port, get
 from lib.usbreg import PAGE_SIZE, SUM_SIZE, TOP, content, done, folder, form, found_without_sums, program, rounds, run, same, write
 
 NEEDED = ("dpkg", "dpkg-deb", "readelf", "git", "setpriv", "systemd-sysusers", "systemd-tmpfiles")
-# A fast compression: the packages are installed, and not kept.
-QUICK = {"DPKG_DEB_COMPRESSOR_TYPE": "gzip", "DPKG_DEB_COMPRESSOR_LEVEL": "1"}
 ON_PATH = {"PATH": f"{os.environ['PATH']}:/usr/sbin:/sbin"}
 DOCUMENTS, SHARED = "usr/share/doc/usbreg", "usr/share/usbreg"
 # What an installation from a checkout left, and comes before the package.
 LEFT = ("usr/local/bin/usbreg", "etc/systemd/system/usbreg.service", "etc/systemd/system/usbreg-list.timer")
 STORE, FOUNDING, UNIT = "var/lib/usbreg/numbers.db", "etc/usbreg/founding.toml", "lib/systemd/system/usbreg.service"
-
-
-def made(usbreg, room, version):
-    """Makes a package of this version, and returns its path."""
-    words = [f"{TOP}/package/build.py", "--program", usbreg, "--version", version, "--into", room]
-    status, output, errors = run(words, env=QUICK)
-    same("the package is made", (status, errors), (0, b""))
-    return output.decode().strip()
 
 
 def compare_files(package, usbreg):

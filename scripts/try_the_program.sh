@@ -16,6 +16,7 @@ beside=(
     compare_man_page.py
     compare_doc_examples.py
     index_definitions.py
+    test_the_tables.py
     explore_the_log.py
     look_into_a_store.py
     make_new_stores.py
@@ -31,17 +32,17 @@ beside=(
     stop_and_go_on.py
     cut_the_power.py
     name_devices.py
-)
-# These wait for a server, for nginx or for a browser, or start machines of their own, so each has the machine alone.
-alone=(
     run_page_examples.py
     try_the_package.py
+    ask_etcd.py
+)
+# These measure how long a server, nginx or a browser takes, or start machines of their own, so each has the machine alone.
+alone=(
     walk_the_pages.py
     talk_to_the_desk.py
     serve_behind_nginx.py
     use_the_page.py
     restore_a_backup.py
-    ask_etcd.py
 )
 passed=0
 failed=0

@@ -19,14 +19,13 @@ import concurrent.futures
 import contextlib
 import json
 import os
-import shutil
-import subprocess
 import sys
 import tempfile
 import threading
 import time
 
 from lib.browsing import Browser, Page, missing
+from lib.in_node import failed_in_node
 from lib.page_heard import is_heard, writes_heard
 from lib.page_story import STORY
 from lib.page_times import imported, time_many, time_slow
@@ -34,7 +33,7 @@ from lib.planted import PLANTED
 from lib.proxy import Recipe
 from lib.serving import HOST
 from lib.staging import BEFORE, CURATOR, Stage
-from lib.usbreg import TOP, content, copy, folder, program, write
+from lib.usbreg import copy, folder, program
 
 # The seconds that a person waits for what the page should show, and for what a bug may keep from being shown; in these
 # parts the proxy itself waits for the server.
@@ -58,17 +57,6 @@ def tell(usbreg, keep=lambda part, stage: None, parts=STORY):
                 return part.__name__, why
             print(f"{time.monotonic() - began:5.1f} s  {part.__name__}", file=sys.stderr)
     return None
-
-
-def read_in_node(folder_of_page=f"{TOP}/web"):
-    """Tests what of the page needs no browser. Returns what failed, or nothing."""
-    with folder() as room:
-        shutil.copytree(folder_of_page, f"{room}/web")
-        write(f"{room}/web/package.json", '{"type": "module"}')
-        words = ["node", "--test", "--test-reporter=tap", f"{TOP}/scripts/lib/page_tables.test.mjs"]
-        ran = subprocess.run(words, env={**os.environ, "WEB": f"{room}/web", "TOP": TOP}, capture_output=True, text=True, check=False)
-    failed = [it for it in ran.stdout.splitlines() if it.startswith("not ok")]
-    return "\n".join(failed) or (ran.stderr if ran.returncode else "")
 
 
 class Planting:
@@ -136,11 +124,7 @@ class Side:
     def act(self, catcher, changes=()):
         """Returns why a part of the story failed, or the tests without a browser, or nothing."""
         if catcher == "node":
-            with folder() as room:
-                shutil.copytree(f"{TOP}/web", f"{room}/web")
-                for file, old, new in changes:
-                    write(f"{room}/web/{file}", content(f"{room}/web/{file}").decode().replace(old, new))
-                return read_in_node(f"{room}/web")
+            return failed_in_node(changes)
         return self.planting().act(catcher, changes)
 
     def begin(self, catcher, bugs):
@@ -242,8 +226,6 @@ def main():
         parts = [(writes_heard if part is is_heard else part, who) for part, who in STORY]
         if failed := tell(usbreg, parts=parts):
             sys.exit(f"{failed[0]}: {failed[1]}")
-    elif failed := shutil.which("node") and read_in_node():
-        sys.exit(failed)
     elif failed := tell(usbreg):
         sys.exit(f"{failed[0]}: {failed[1]}")
     else:

@@ -12,20 +12,17 @@ Usage: scripts/walk_the_pages.py [PROGRAM [PACKAGE]], by default the program tha
 Where no such machine can be booted, as without root, it says so and skips all. The exit status is 0 if all of this holds."""
 
 import json
-import os
 import re
-import subprocess
 import sys
 import time
 
 from lib.booted import Booted, missing, wire
+from lib.packaged import made
 from lib.pages import block
 from lib.usbreg import TOP, done, folder, program, same
 
 HOST = "https://registry.example"
 LINK = "https://acme.example/"
-# A fast compression: the packages are installed, and not kept.
-QUICK = {"DPKG_DEB_COMPRESSOR_TYPE": "gzip", "DPKG_DEB_COMPRESSOR_LEVEL": "1"}
 SMALL_DISK = "mount -t tmpfs -o size=4m,mode=700,uid=usbreg,gid=usbreg tmpfs /var/lib/usbreg"
 ENROL = {"order": "enrol", "org": "acme", "title": "Acme", "site": LINK}
 ASK = {"order": "ask", "org": "acme", "number": "0011", "title": "Blinker", "licence": "MIT", "site": LINK, "source": LINK}
@@ -257,19 +254,13 @@ def checkout(room, package):
         same("the old program is named", "/usr/local/bin/usbreg comes before" in machine.must_run("cp program /usr/local/bin/usbreg; dpkg -i usbreg_of_this_walk.deb"), True)
 
 
-def made(usbreg, room):
-    """Makes a package of the program, and returns its path."""
-    words = [f"{TOP}/package/build.py", "--program", usbreg, "--version", "0.1.0+walk", "--into", room]
-    return subprocess.run(words, env=os.environ | QUICK, stdout=subprocess.PIPE, check=True, text=True).stdout.strip()
-
-
 def main():
     usbreg = program(*sys.argv[1:2])
     if why := missing():
         print(f"SKIPPED: the pages for operators were not walked: {why}")
         return
     with folder() as room:
-        package = sys.argv[2] if len(sys.argv) > 2 else made(usbreg, room)
+        package = sys.argv[2] if len(sys.argv) > 2 else made(usbreg, room, "0.1.0+walk")
         with Registry(room, "second", 2) as second:
             with Registry(room, "first", 1) as first:
                 given = set_up(first, room, package)

@@ -15,7 +15,7 @@ export function reply(done) {
     return [`${deed} `, numberLink(vendor ?? foundingVendor(), number), ...by];
   }
   if (org) return [`${deed} `, orgLink(org), keeper && ` over to ${keeper}`].filter(Boolean);
-  return petition ? [deed, petitionLink(petition)] : [written(done)];
+  return petition ? [deed && `${deed} `, petitionLink(petition)] : [written(done)];
 }
 
 // Where an order is told of. It is read aloud when it changes.

@@ -19,7 +19,7 @@ export const isUnreached = why => why instanceof Refused && UNREACHED.includes(w
 // the server is down has waited for it.
 const BUSY = [0, 1000, 2000, 4000, 8000], LOST = [0, 500];
 // A wait that the proxy names is waited for if it has at most so many seconds.
-const PATIENCE = 10;
+export const PATIENCE = 10;
 // A report that is no file is kept by the proxy for ten seconds, and took some to write.
 const KEPT = 15_000;
 

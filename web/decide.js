@@ -13,6 +13,7 @@ import { Decision, reasonInput } from './decision.js';
 import { aboutPetition, numbersTable, standingOf, termsOf, vendorChoice, wish, wishNow } from './pieces.js';
 import { follow } from './entries.js';
 import { openInFiles } from './record.js';
+import { endBy } from './orders.js';
 import { readReply } from './reading.js';
 import { wordsIn } from './numbers.js';
 
@@ -111,8 +112,6 @@ class Card {
   }
 }
 
-const ENDS = { grant: 'granted', decline: 'declined', withdraw: 'withdrawn' };
-
 class Queue {
   constructor(open, terms, { q = '', vendor = '', sort = '', page = '1' }) {
     Object.assign(this, { open, terms, vendor, page: Number(page), cards: [], closed: new Set() });
@@ -126,14 +125,14 @@ class Queue {
     this.show();
   }
 
-  address(page) {
+  address(page = '') {
     const { query, sort, vendor } = this;
-    return addressOf('decide', { q: query.value, vendor, sort: sort.value, page: page > 1 ? page : '' });
+    return addressOf('decide', { q: query.value, vendor, sort: sort.value, page });
   }
 
   filter(vendor = this.vendor) {
     Object.assign(this, { vendor, page: 1 });
-    history.replaceState(null, '', this.address(1));
+    history.replaceState(null, '', this.address());
     this.show();
   }
 
@@ -154,7 +153,7 @@ class Queue {
     const { shown, words, links } = paged(found, this.page, PER_PAGE, page => this.address(page));
     this.cards = shown.map(it => new Card(it, this));
     this.list.replaceChildren(...this.cards.map(it => it.element));
-    this.links.replaceChildren(links || '');
+    this.links.replaceChildren(...links);
     this.part = { words, isAll: found.length === this.open.length - this.closed.size };
     this.tell();
     this.choose();
@@ -225,9 +224,9 @@ class Queue {
     const isTouched = ({ vid, want }) => vid === vendor && first <= want && want <= last;
     const touched = new Set(this.cards.map(it => it.listed).filter(isTouched).map(it => it.want));
     for (const it of touched) numberNow(vendor, it).then(() => this.tell(), () => { /* a view asks again */ });
-    if (!ENDS[order]) return;
+    if (!endBy(order)) return;
     noteClosed(petition);
-    const card = this.cards.find(it => it.listed.id === petition), how = { state: ENDS[order], by: caller, reason };
+    const card = this.cards.find(it => it.listed.id === petition), how = { state: endBy(order), by: caller, reason };
     // closed by a refusal, which names nobody
     if (this.closed.has(petition)) {
       if (card?.end.hasChildNodes()) card.say(how);

@@ -97,6 +97,9 @@ export function searchBox(value, oninput) {
   return h('input', { type: 'search', id: 'query', autocomplete: 'off', spellcheck: 'false', value, oninput });
 }
 
+// The words that were typed there, in lower case.
+export const typedWords = text => text.toLowerCase().split(/\s+/).filter(Boolean);
+
 // A choice among values with words for each.
 export function select(attributes, options, chosen) {
   return h('select', attributes, options.map(([value, words]) =>
@@ -110,13 +113,14 @@ export function pager(names, addresses) {
   return h('nav', { class: 'buttons', 'aria-label': 'More' }, names.map((name, at) => link(name, addresses[at])));
 }
 
-// What a page with so many things shows of a list, from page 1 on, in words and as links to its neighbours.
+// What a page with so many things shows of a list, from page 1 on, in words and as links to its neighbours. The address
+// of the first page names none.
 export function paged(list, page, most, address) {
   const last = Math.max(1, Math.ceil(list.length / most)), now = Math.min(Math.max(page, 1), last);
   const first = (now - 1) * most, shown = list.slice(first, first + most);
   const words = list.length > most ? `; ${grouped(first + 1)} to ${grouped(first + shown.length)} shown` : '';
-  const at = it => it >= 1 && it <= last ? address(it) : null;
-  return { shown, words, links: last > 1 && pager(['Previous', 'Next'], [at(now - 1), at(now + 1)]) };
+  const at = it => it >= 1 && it <= last ? address(it > 1 ? it : '') : null;
+  return { shown, words, links: last > 1 ? [pager(['Previous', 'Next'], [at(now - 1), at(now + 1)])] : [] };
 }
 
 // Names and their values, without those that have none.

@@ -2,15 +2,13 @@
 // response other than 503 came. Until then the same bytes go again under the same key, so the order takes effect at
 // most once.
 
-import { pause } from './asking.js';
+import { PATIENCE, pause } from './asking.js';
 import { inWords, jsonOr } from './reading.js';
 import { me, signIn, signOut } from './session.js';
 
 const PREFIX = 'usbreg-order-';
 // The milliseconds before each try.
 const WAITS = [0, 500, 1000, 2000, 4000, 8000, 8000];
-// A wait that the proxy names is waited for if it has at most so many seconds.
-const PATIENCE = 10;
 const UNSAFE = 'Sending … This browser cannot keep the order: leave the page open until there is an answer.';
 
 // The orders without an answer, of all windows; and those that this browser could not keep, which last as long as the

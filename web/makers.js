@@ -3,7 +3,7 @@
 import { isThere, isUnreached } from './asking.js';
 import {
   addressOf, button, choices, counted, facts, h, later, orderLink, orgLink, note, outside, paged, petitionLink,
-  searchBar, searchBox, soft, table, written,
+  searchBar, searchBox, soft, table, typedWords, written,
 } from './elements.js';
 import { founded, isCurator, known, loaded, numberNow, openPetitions, orgNow, orgsKeptBy } from './registry.js';
 import { HELD } from './vendor.js';
@@ -35,13 +35,13 @@ export async function orgsView(_, { q = '', page = '1' }) {
   const rows = h('div', { id: 'rows' }), count = h('p', { role: 'status', id: 'count' }), links = h('div');
   const cells = it => [orgLink(it.slug), written(it.title), it.keeper, String(held.get(it.slug) ?? 0)];
   const show = at => {
-    const words = query.value.toLowerCase().split(/\s+/).filter(Boolean);
+    const words = typedWords(query.value);
     const found = all.filter(it => words.every(word => it.text.includes(word)));
-    const part = paged(found, at, PER_PAGE, it => addressOf('orgs', { q: query.value, page: it > 1 ? it : '' }));
+    const part = paged(found, at, PER_PAGE, page => addressOf('orgs', { q: query.value, page }));
     count.textContent = `${counted(found.length, 'organisation')}${part.words}`;
     const heads = ['Short name', ['Name', 'long'], 'Keeper', ['Holds', 'count']];
     rows.replaceChildren(table('Organisations', heads, part.shown.map(cells)));
-    links.replaceChildren(part.links || '');
+    links.replaceChildren(...part.links);
   };
   show(Number(page));
   const bar = searchBar(h('label', { class: 'wide' }, 'Search by name or keeper', query));

@@ -3,7 +3,7 @@
 import { isUnreached } from './asking.js';
 import {
   addressOf, choices, counted, facts, fault, grouped, h, note, numberLink, orderLink, orgLink, paged, searchBar,
-  searchBox, select, state, table, written,
+  searchBox, select, state, table, typedWords, written,
 } from './elements.js';
 import { numberIn } from './orders.js';
 import {
@@ -27,8 +27,7 @@ export function wordsIn(text) {
     const { vendor, number = it } = numberIn(it) ?? {};
     return vendor ? `${vendor}:${number}` : number;
   };
-  const words = text.toLowerCase().split(/\s+/).filter(Boolean);
-  return words.map(it => /^[0-9a-f]{1,4}$/.test(it) ? it : wordOf(it));
+  return typedWords(text).map(it => /^[0-9a-f]{1,4}$/.test(it) ? it : wordOf(it));
 }
 
 // A search, whose words, state and page are in the address.
@@ -54,15 +53,15 @@ class Search {
     setTimeout(() => vendor.prepare(known.orgs));
   }
 
-  address(page) {
+  address(page = '') {
     const kind = this.kind.value === SHOWN[0][0] ? '' : this.kind.value;
-    return addressOf(`numbers/${this.vendor.vid}`, { q: this.query.value, state: kind, page: page > 1 ? page : '' });
+    return addressOf(`numbers/${this.vendor.vid}`, { q: this.query.value, state: kind, page });
   }
 
   search() {
     this.page = 1;
     this.show();
-    history.replaceState(null, '', this.address(1));
+    history.replaceState(null, '', this.address());
   }
 
   show() {
@@ -78,7 +77,7 @@ class Search {
     ];
     const heads = [['Number', 'code few'], ['Title', 'long'], 'Organisation', ['State', 'few']];
     this.rows.replaceChildren(table('Numbers', heads, shown.map(cells)));
-    this.links.replaceChildren(links || '');
+    this.links.replaceChildren(...links);
     this.exact.replaceChildren(...this.one());
   }
 

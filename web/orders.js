@@ -1,5 +1,6 @@
-// The orders that a person may give, as one table: the words for each, and its fields with the rules that can be
-// checked while one types. The registry checks all rules again.
+// The orders that a person may give, as one table: the words for each, its fields with the rules that can be checked
+// while one types, and its reply. Forms, their addresses and the reading of replies come from it, and so do the tests
+// of these. The registry checks all rules again.
 
 const bytesOf = text => new TextEncoder().encode(text).length;
 
@@ -71,40 +72,45 @@ const last = field('last', 'id', 'Last number', DIGITS);
 
 const terms = [title, licence, site, source];
 
-// `sure` is the question before an order that cannot be taken back.
-const order = (words, told, fields, more = {}) => ({ words, told, fields, ...more });
+// What a reply names stands in braces; a reply that names nothing is left out. `ends` is the state in which an order
+// leaves its petition, and `sure` the question before an order that cannot be taken back.
+const order = (words, told, fields, reply, more = {}) => ({ words, told, fields, reply, ...more });
 const curators = { isCurators: true };
 const sure = (question, more = {}) => ({ sure: question, ...more });
+const ends = (state, more = {}) => ({ ends: state, ...more });
 
 export const ORDERS = {
   enrol: order('Enrol an organisation', 'You become its keeper: only you can ask for numbers for it.',
-    [newOrg, orgTitle, site]),
-  'amend-org': order('Change an organisation', 'Only its keeper can.', [org, orgTitle, site]),
+    [newOrg, orgTitle, site], 'enrolled {org}'),
+  'amend-org': order('Change an organisation', 'Only its keeper can.', [org, orgTitle, site],
+    'amended organisation {org}'),
   'hand-over': order('Hand an organisation over', 'Its keeper can, and so can a curator if the keeper is gone.',
-    [orgFrom('handed'), keeper], sure('Hand this organisation over?')),
+    [orgFrom('handed'), keeper], 'handed {org} over to {keeper}', sure('Hand this organisation over?')),
   ask: order('Ask for a number', 'A curator looks at your petition, and grants or declines it.',
-    [org, vendor, wanted, ...terms]),
-  amend: order('Change what a number says', 'Only the keeper of its organisation can.', [vendor, number, ...terms]),
+    [org, vendor, wanted, ...terms], '{petition}'),
+  amend: order('Change what a number says', 'Only the keeper of its organisation can.', [vendor, number, ...terms],
+    'amended {number}'),
   return: order('Return a number', 'It stays with its organisation: nobody else can get it.', [vendor, number],
-    sure('Return this number?')),
+    'returned {number}', sure('Return this number?')),
   withdraw: order('Withdraw a petition', 'Only the keeper of its organisation can.', [petition],
-    sure('Withdraw this petition?')),
+    'withdrawn {petition}', sure('Withdraw this petition?', ends('withdrawn'))),
   grant: order('Grant a petition', 'Its organisation then holds the number.', [petition, granted],
-    sure('Grant this petition?', curators)),
+    'granted {number} to {org} by {petition}', sure('Grant this petition?', ends('granted', curators))),
   decline: order('Decline a petition', 'Say why: the maker can ask again.', [petition, whyNot],
-    sure('Decline this petition?', curators)),
+    'declined {petition}', sure('Decline this petition?', ends('declined', curators))),
   correct: order('Correct a number', 'It puts right what the number of any organisation says.',
-    [vendor, number, ...terms], curators),
+    [vendor, number, ...terms], 'corrected {number}', curators),
   'correct-org': order('Correct an organisation', 'It puts right the name or the web page of any organisation.',
-    [orgFrom(null), orgTitle, site], curators),
+    [orgFrom(null), orgTitle, site], 'corrected organisation {org}', curators),
   revoke: order('Revoke a number', 'Its organisation no longer holds it, and nobody else can get it.',
-    [vendor, number, reason], sure('Revoke this number?', curators)),
+    [vendor, number, reason], 'revoked {number}', sure('Revoke this number?', curators)),
   reserve: order('Reserve numbers', 'Nobody gets a reserved number until it is released.', [vendor, first, last],
-    curators),
-  release: order('Release numbers', 'Released numbers are free again.', [vendor, first, last], curators),
-  'add-licence': order('Allow a licence', 'No order takes it back.', [newLicence],
+    'reserved {span}', curators),
+  release: order('Release numbers', 'Released numbers are free again.', [vendor, first, last],
+    'released {span}', curators),
+  'add-licence': order('Allow a licence', 'No order takes it back.', [newLicence], null,
     sure('Allow this licence for good?', curators)),
-  'add-vendor': order('Add a vendor', 'No order takes it back.', [newVendor, vendorName],
+  'add-vendor': order('Add a vendor', 'No order takes it back.', [newVendor, vendorName], null,
     sure('Add this vendor for good?', curators)),
 };
 
@@ -129,6 +135,9 @@ export function orderOf(kind, texts) {
   }
   return order;
 }
+
+// The state in which an order leaves its petition, if it closes one.
+export const endBy = kind => ORDERS[kind]?.ends;
 
 // The words for an order, and the names and values of its fields.
 export const wordsOf = body => ORDERS[body.order]?.words ?? 'An order';

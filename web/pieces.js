@@ -33,8 +33,9 @@ export function standingOf(vid, digits) {
 // What stands where the registry could not be asked.
 export const sayOld = () => note('The registry is down: this is what the last reports said.');
 
-// The number that a petition wants, and where all numbers are known what it is now.
-export const wish = it => it.want ? numberLink(it.vid, it.want) : `any number of ${it.vid}`;
+// The number that a petition wants, as it is shown, and where all numbers are known what it is now.
+const wished = (it, shown) => it.want ? shown(it.vid, it.want) : `any number of ${it.vid}`;
+export const wish = it => wished(it, numberLink);
 export function wishNow(petition) {
   if (!petition.want) return wish(petition);
   const now = standingOf(petition.vid, petition.want);
@@ -57,7 +58,7 @@ const named = (slug, org) => org ? [written(org.title), ` (${slug})`] : slug;
 
 // What a question about a petition says, and more facts of the order.
 export function aboutPetition(it, org = known.orgs.get(it.org), ...more) {
-  const wants = it.want ? `${it.vid}:${it.want}, now ${standingOf(it.vid, it.want).state}` : `any number of ${it.vid}`;
+  const wants = wished(it, (vid, number) => `${vid}:${number}, now ${standingOf(vid, number).state}`);
   return facts(['Petition', String(it.id)], ['Organisation', named(it.org, org)], ['Title', written(it.title)],
     ['Wants', wants], ...more);
 }

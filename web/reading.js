@@ -1,5 +1,7 @@
 // What the registry answers, in the forms of docs/requests.md: refusals in words, replies, and reports.
 
+import { ORDERS } from './orders.js';
+
 // A refusal of the registry by its number: the words for it, and the fields that it may be about.
 const REFUSALS = {
   1: [() => 'This key was used for another order.'],
@@ -56,22 +58,28 @@ export function jsonOr(text, otherwise) {
   try { return JSON.parse(text) ?? otherwise; } catch { return otherwise; }
 }
 
-// The forms of the replies that name something, and the names of their parts.
-const REPLIES = [
-  [/^(granted) (?:(.{4}):)?([0-9a-f]{4}) to (\S+) by petition (\d+)$/, 'deed', 'vendor', 'number', 'org', 'petition'],
-  [/^(amended|returned|corrected|revoked) (?:(.{4}):)?([0-9a-f]{4})$/, 'deed', 'vendor', 'number'],
-  [/^(enrolled|amended organisation|corrected organisation) (\S+)$/, 'deed', 'org'],
-  [/^(handed) (\S+) over to (\S+)$/, 'deed', 'org', 'keeper'],
-  [/^(declined |withdrawn |)petition (\d+)$/, 'deed', 'petition'],
-  [/^(reserved|released) (?:(.{4}):)?([0-9a-f]{4})-([0-9a-f]{4})$/, 'deed', 'vendor', 'first', 'last'],
-];
+// What a reply may name: how it is written, and the names of its parts. A number of the founding vendor stands alone.
+const NAMED = {
+  number: ['(?:(.{4}):)?([0-9a-f]{4})', 'vendor', 'number'],
+  span: ['(?:(.{4}):)?([0-9a-f]{4})-([0-9a-f]{4})', 'vendor', 'first', 'last'],
+  org: ['(\\S+)', 'org'], keeper: ['(\\S+)', 'keeper'], petition: ['petition (\\d+)', 'petition'],
+};
+
+// The deed of a reply, which stands before all that it names, its whole form, and the names of the parts.
+function formOf(reply) {
+  const parts = reply.split(/\{(\w+)\}/), written = parts.map((it, at) => at % 2 ? NAMED[it][0] : it);
+  const names = parts.flatMap((it, at) => at % 2 ? NAMED[it].slice(1) : []);
+  return { deed: parts[0].trim(), form: new RegExp(`^${written.join('')}$`), names };
+}
+
+const REPLIES = Object.values(ORDERS).filter(it => it.reply).map(it => formOf(it.reply));
 
 // What a reply names: the deed, and the vendor unless it is the founding one, the number, the organisation, the
 // petition or the span. Null if it names none of them.
 export function readReply(done) {
-  for (const [form, ...names] of REPLIES) {
+  for (const { deed, form, names } of REPLIES) {
     const parts = done.match(form);
-    if (parts) return Object.fromEntries(names.map((name, at) => [name, parts[at + 1]]));
+    if (parts) return { deed, ...Object.fromEntries(names.map((name, at) => [name, parts[at + 1]])) };
   }
   return null;
 }

@@ -4,6 +4,7 @@ import {
   button, counted, day, facts, fault, grouped, h, note, orderLink, orgLink, pager, petitionLink, table, written,
 } from './elements.js';
 import { GLANCE, PIECE, between, findEnd, numbered, readFiles, readHead } from './entries.js';
+import { endBy } from './orders.js';
 import { readReply } from './reading.js';
 import { founded, foundingVendor } from './registry.js';
 import { wish } from './pieces.js';
@@ -144,18 +145,16 @@ export function storyOfPetition(id) {
   return storyOf([[fileOfPetition(id)]], isAbout, 'No entry is about this petition.');
 }
 
-// What became of a petition by the entry that closed it.
-const ENDS = { grant: 'granted', decline: 'declined', withdraw: 'withdrawn' };
-
 // A petition of the record: what it asked for, and what became of it.
 function petitionIn(entry, ends) {
   const id = Number(readReply(entry.done).petition), { number, vendor } = entry, vid = vendor ?? foundingVendor();
   return { ...entry, id, want: number?.toLowerCase() ?? null, vid, ...(ends.get(id) ?? { state: 'open' }) };
 }
 
+// What became of a petition by the entry that closed it.
 function endOf({ order, done, caller, at, reason }) {
   const { number, vendor } = readReply(done), granted = number && `${vendor ?? foundingVendor()}:${number}`;
-  return { state: ENDS[order], by: caller, ended: at, granted, reason };
+  return { state: endBy(order), by: caller, ended: at, granted, reason };
 }
 
 const canAskAgain = it => it.state === 'declined' || it.state === 'withdrawn';
@@ -175,7 +174,7 @@ function petitionCells(it, isKeeper) {
 export function petitionsInRecord(org, isKeeper, heard = () => {}) {
   const found = [], ends = new Map();
   const look = ([, entry]) => {
-    if (ENDS[entry.order]) ends.set(entry.petition, endOf(entry));
+    if (endBy(entry.order)) ends.set(entry.petition, endOf(entry));
     if (entry.order !== 'ask' || entry.org !== org) return found.length > 0;
     found.push(petitionIn(entry, ends));
     if (found.at(-1).granted) heard(found.at(-1));
@@ -192,7 +191,7 @@ export async function openInFiles() {
   for (const [, entry] of files?.list.reverse() ?? []) {
     const petition = Number(readReply(entry.done)?.petition);
     if (entry.order === 'ask') open.set(petition, petitionIn(entry, new Map()));
-    else if (ENDS[entry.order]) open.delete(petition);
+    else if (endBy(entry.order)) open.delete(petition);
   }
   return open;
 }

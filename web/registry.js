@@ -177,13 +177,13 @@ export function noteClosed(id) {
 export async function learnOrder(order, reply) {
   await founded();
   renew();
-  const { vendor, number, petition, first, last } = readReply(reply) ?? {}, vid = vendor ?? foundingVendor();
+  const { vendor, number, org, petition, first, last } = readReply(reply) ?? {}, vid = vendor ?? foundingVendor();
   if (order.petition) closed.add(order.petition);
   if (number) await numberNow(vid, number);
-  if (['enrol', 'amend-org', 'hand-over', 'correct-org'].includes(order.order)) await orgNow(order.org);
+  else if (org) await orgNow(org);
   if (order.order === 'ask') {
-    const { org, number: want = null, title } = order;
-    opened.push({ at: Date.now(), id: Number(petition), org, want, title, vid: order.vendor ?? foundingVendor() });
+    const { number: want = null, title, vendor: vid = foundingVendor() } = order;
+    opened.push({ at: Date.now(), id: Number(petition), org: order.org, want, title, vid });
   }
   if (first) {
     const state = order.order === 'reserve' ? 'reserved' : 'free', span = [parseInt(first, 16), parseInt(last, 16)];

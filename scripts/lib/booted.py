@@ -4,11 +4,11 @@ for `apt-get`: it installs a package by its path, and of another one checks that
 
 import os
 import shutil
-import signal
 import subprocess
 import sys
 import time
 
+from lib.stopping import kill
 from lib.usbreg import content, write
 
 SYSTEMD = "/lib/systemd/systemd"
@@ -99,8 +99,7 @@ class Booted:
 
     def __exit__(self, *_):
         """Ends it like a power cut: all its processes are killed."""
-        self.outer.send_signal(signal.SIGKILL)
-        self.outer.wait()
+        kill(self.outer)
         self.log.close()
 
     def is_up(self):

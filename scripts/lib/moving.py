@@ -7,9 +7,10 @@ import subprocess
 import sys
 
 from lib.made_up_pages import VENDOR
+from lib.pages import block
 from lib.usbreg import TOP, content, copy, opened, run, same
 
-PAGE = f"{TOP}/docs/moving.md"
+PAGE = "docs/moving.md"
 PYTHON = "/usr/bin/python3"
 # Prints the fields of each page below some folders as the library reads them, by path, or nothing if it cannot.
 READER = """
@@ -29,17 +30,6 @@ for top in sys.argv[2:]:
 print(json.dumps(pages))
 """
 ROWS = "SELECT vid, pid, title, org, licence, site, source FROM entries3 WHERE held ORDER BY vid, pid", "SELECT slug, title, site FROM orgs ORDER BY slug", "SELECT name FROM licences ORDER BY name"
-
-
-def blocks():
-    """Returns the commands in docs/moving.md that need neither a network nor a service, in their order, with the titles above them."""
-    found, title = [], ""
-    for part in re.split(r"^(#+ [^\n]*|```sh\n.*?^```$)", content(PAGE).decode(), flags=re.MULTILINE | re.DOTALL):
-        if part.startswith("#"):
-            title = part.lstrip("# ")
-        elif part.startswith("```sh\n"):
-            found.append((title, part[6:-3]))
-    return found
 
 
 class Mover:
@@ -65,7 +55,7 @@ class Mover:
 
     def block(self, title, at=0):
         """Returns the commands below a title of the page."""
-        return [commands for of, commands in blocks() if of == title][at]
+        return block(title, at, [PAGE])
 
     def path(self, name):
         return f"{self.room}/{name}"

@@ -1,13 +1,13 @@
-// Tests what of the page needs no browser, by `node --test`: the table of orders against that of docs/requests.md, the
-// reading of numbers, addresses, replies, refusals and reports. `use_the_page.py` runs it, with the folder of the page in
-// the variable WEB and that of the repository in TOP.
+// Tests what of the page needs no browser, by `node --test`: the page's table of orders against that of docs/requests.md, and
+// from it the forms, their addresses and the reading of replies; the reading of numbers, refusals and reports. `in_node.py`
+// runs it, with the folder of the page in the variable WEB and that of the repository in TOP.
 
 import assert from 'node:assert/strict';
 import { readFileSync } from 'node:fs';
 import { test } from 'node:test';
 
 const { WEB, TOP } = process.env;
-const { ORDERS, check, fieldsIn, numberIn, orderOf, valueIn, wordsOf, wrongIn } = await import(`${WEB}/orders.js`);
+const { ORDERS, check, endBy, fieldsIn, numberIn, orderOf, valueIn, wordsOf, wrongIn } = await import(`${WEB}/orders.js`);
 const {
   fieldsOf, inWords, jsonOr, readNumbers, readOrganisations, readPetitions, readReply, readStory,
 } = await import(`${WEB}/reading.js`);
@@ -20,31 +20,89 @@ const rows = [...requests.matchAll(/^\| `([a-z-]+)` \| ([a-z?, ]+) \| `([^`]+)` 
   .map(([, name, fields, reply]) => ({ name, fields: fields.split(', '), reply }));
 const refusals = [...requests.matchAll(/^\| (\d+) \| (\w+) \| (\d+) \|/gm)].map(([, number]) => Number(number));
 
+// A text of each kind that is right as it is, and some that are wrong.
+const KINDS = {
+  slug: ['acme-1', '', 'Acme', 'a'.repeat(33)],
+  title: ['x', ' x', 'x ', 'a\tb', 'é'.repeat(101)],
+  link: ['https://a.example/', 'acme.example', 'ftp://a.example/', `https://a.example/${'x'.repeat(400)}`],
+  id: ['00ab', '0000', '11', 'zzzz'],
+  petition: ['4294967295', '0', '4294967296', '1.0'],
+};
+// What a reply may name, as it is read and as it is written.
+const NAMED = {
+  number: [{ vendor: undefined, number: '00ab' }, '00ab'],
+  span: [{ vendor: 'cafe', first: '2000', last: '20ff' }, 'cafe:2000-20ff'],
+  org: [{ org: 'acme-1' }, 'acme-1'], keeper: [{ keeper: 'bob' }, 'bob'], petition: [{ petition: '12' }, 'petition 12'],
+};
+
 test('the forms have the orders of the table, and their fields', () => {
   assert.deepEqual(rows.map(it => it.name).sort(), Object.keys(ORDERS).sort());
   for (const { name, fields } of rows) {
     const here = ORDERS[name].fields.map(it => it.name + (it.optional ? '?' : ''));
-    assert.deepEqual(here.sort(), fields.toSorted(), name);
+    assert.deepEqual(here.sort(), [...fields].sort(), name);
   }
 });
 
-test('each reply that names something is read', () => {
-  const read = Object.fromEntries(rows.map(it => [it.name, readReply(it.reply)]));
-  assert.deepEqual(read.grant, { deed: 'granted', vendor: undefined, number: '00ab', org: 'acme', petition: '1' });
-  assert.deepEqual(read.return, { deed: 'returned', vendor: undefined, number: '00ab' });
-  assert.deepEqual(read['amend-org'], { deed: 'amended organisation', org: 'acme' });
-  assert.deepEqual(read['correct-org'], { deed: 'corrected organisation', org: 'acme' });
-  assert.deepEqual(read['hand-over'], { deed: 'handed', org: 'acme', keeper: 'bob' });
-  assert.deepEqual(read.correct, { deed: 'corrected', vendor: undefined, number: '00ab' });
-  assert.equal(read.revoke.deed, 'revoked');
-  assert.deepEqual(read.ask, { deed: '', petition: '1' });
-  assert.deepEqual(read.decline, { deed: 'declined ', petition: '2' });
-  assert.deepEqual(read.reserve, { deed: 'reserved', vendor: 'cafe', first: '2000', last: '20ff' });
-  assert.deepEqual(read.release, { deed: 'released', vendor: 'cafe', first: '2010', last: '2010' });
-  assert.equal(readReply('granted cafe:00ab to acme by petition 12').vendor, 'cafe');
-  for (const name of ['add-licence', 'add-vendor']) assert.equal(read[name], null);
-  const none = ['granted 00ab', 'petition 1 ', 'amended 00AB', 'added licence petition 1'];
+test('each order has the fields that are written, and no others', () => {
+  for (const [name, { fields, words }] of Object.entries(ORDERS)) {
+    const texts = Object.fromEntries(fields.map(it => [it.name, KINDS[it.kind][0]]));
+    const valueOf = it => it.kind === 'petition' ? Number(texts[it.name]) : texts[it.name];
+    const bodyOf = some => ({ order: name, ...Object.fromEntries(some.map(it => [it.name, valueOf(it)])) });
+    assert.deepEqual(orderOf(name, { ...texts, other: 'x' }), bodyOf(fields), name);
+    const needed = fields.filter(it => !it.optional), left = fields.filter(it => it.optional).map(it => [it.name, '']);
+    assert.deepEqual(orderOf(name, { ...texts, ...Object.fromEntries(left) }), bodyOf(needed), name);
+    assert.equal(wordsOf(bodyOf(fields)), words);
+    assert.deepEqual(fieldsIn(bodyOf(needed)), needed.map(it => [it.label, texts[it.name]]), name);
+    const address = `#/do/${name}?${new URLSearchParams(texts)}`;
+    assert.deepEqual(readAddress(address), { view: 'do', values: { order: name }, given: texts }, address);
+  }
+});
+
+test('each field takes what the registry takes, and says what is wrong', () => {
+  for (const field of Object.values(ORDERS).flatMap(it => it.fields)) {
+    const [right, ...wrong] = KINDS[field.kind];
+    assert.equal(wrongIn(field, right), '', field.name);
+    assert.equal(wrongIn(field, ''), field.optional ? '' : 'This is needed.', field.name);
+    for (const text of wrong.filter(Boolean)) assert.notEqual(wrongIn(field, text), '', `${field.name}: ${text}`);
+    assert.equal(valueIn(field, right), right, field.name);
+  }
+  for (const [kind, [, ...wrong]] of Object.entries(KINDS)) for (const it of wrong) assert.notEqual(check(kind, it), '', it);
+  assert.equal(check('id', '00AB'), '');
+  assert.equal(valueIn({ kind: 'id' }, ' 1209:11. '), '0011');
+  assert.equal(valueIn({ kind: 'title' }, ' x'), ' x');
+  assert.equal(valueIn({ kind: 'slug' }, ' x'), 'x');
+});
+
+test('the reply to each order is read', () => {
+  const named = Object.values(ORDERS).filter(it => it.reply);
+  assert.equal(new Set(named.map(it => it.reply)).size, named.length);
+  for (const { reply } of named) {
+    const parts = [...reply.matchAll(/\{(\w+)\}/g)].map(([, name]) => NAMED[name][0]), [deed] = reply.split('{');
+    const text = reply.replace(/\{(\w+)\}/g, (_, name) => NAMED[name][1]);
+    assert.deepEqual(readReply(text), Object.assign({ deed: deed.trim() }, ...parts), text);
+    for (const none of [`${text} `, ` ${text}`, `${text}\n`]) assert.equal(readReply(none), null, none);
+  }
+  // what is read of those of docs/requests.md makes them again
+  const number = it => `${it.vendor ? `${it.vendor}:` : ''}${it.number ?? `${it.first}-${it.last}`}`;
+  const texts = { number, span: number, org: it => it.org, keeper: it => it.keeper, petition: it => `petition ${it.petition}` };
+  for (const { name, reply } of rows) {
+    const read = readReply(reply), form = ORDERS[name].reply;
+    if (form === null) assert.equal(read, null, reply);
+    else assert.equal(form.replace(/\{(\w+)\}/g, (_, part) => texts[part](read)), reply);
+  }
+  const grant = { deed: 'granted', vendor: 'cafe', number: '00ab', org: 'acme', petition: '12' };
+  assert.deepEqual(readReply('granted cafe:00ab to acme by petition 12'), grant);
+  const span = { deed: 'released', vendor: undefined, first: '2010', last: '2010' };
+  assert.deepEqual(readReply('released 2010-2010'), span);
+  const none = ['granted 00ab', 'amended 00AB', 'amended :00ab', 'added licence petition 1', 'imported fresh 0'];
   for (const text of none) assert.equal(readReply(text), null, text);
+});
+
+test('an order that closes a petition says how', () => {
+  const closing = rows.filter(({ name }) => ORDERS[name].fields.some(it => it.kind === 'petition'));
+  for (const { name, reply } of closing) assert.equal(endBy(name), reply.split(' ')[0]);
+  assert.deepEqual(Object.keys(ORDERS).filter(endBy).sort(), closing.map(it => it.name).sort());
+  assert.equal(endBy('import'), undefined);
 });
 
 test('each refusal has words of its own, but those of a message and of an import', () => {
@@ -74,30 +132,6 @@ test('a number is read as people write it', () => {
   for (const text of none) assert.equal(of(text), null, text);
 });
 
-test('a field takes what the registry takes, and says what is wrong', () => {
-  const right = { slug: 'acme-1', title: 'x', link: 'https://a.example/', id: '00AB', petition: '4294967295' };
-  for (const [kind, text] of Object.entries(right)) assert.equal(check(kind, text), '', kind);
-  const wrong = {
-    slug: ['', 'Acme', 'a'.repeat(33)], title: [' x', 'x ', 'a\tb', 'é'.repeat(101)], id: ['0000', '11', 'zzzz'],
-    link: ['acme.example', 'ftp://a.example/', `https://a.example/${'x'.repeat(400)}`], petition: ['0', '4294967296', '1.0'],
-  };
-  for (const [kind, texts] of Object.entries(wrong)) {
-    for (const text of texts) assert.notEqual(check(kind, text), '', text);
-  }
-  assert.equal(wrongIn({ kind: 'id' }, ''), 'This is needed.');
-  assert.equal(wrongIn({ kind: 'id', optional: true }, ''), '');
-  assert.equal(valueIn({ kind: 'id' }, ' 1209:11. '), '0011');
-  assert.equal(valueIn({ kind: 'title' }, ' x'), ' x');
-});
-
-test('an order has the fields that are not empty', () => {
-  assert.deepEqual(orderOf('grant', { petition: '7', number: '' }), { order: 'grant', petition: 7 });
-  const texts = { vendor: 'cafe', number: '00ab' };
-  assert.deepEqual(orderOf('return', texts), { order: 'return', ...texts });
-  assert.equal(wordsOf({ order: 'ask' }), 'Ask for a number');
-  assert.deepEqual(fieldsIn({ order: 'grant', petition: 7 }), [['Petition', '7']]);
-});
-
 test('an address is read once, in lower case, or is none', () => {
   const is = (view, values, given = {}) => ({ view, values, given });
   assert.deepEqual(readAddress(''), is('numbers', {}));
@@ -123,7 +157,7 @@ test('numbers are read as they come, and again if they are cut', async () => {
   const rest = new Promise(done => { goOn = done; });
   // the number 0005 is free by the second try
   const numbers = isCut => {
-    const bytes = new TextEncoder().encode((isCut ? lines : lines.toSpliced(4, 1)).join(''));
+    const bytes = new TextEncoder().encode((isCut ? lines : lines.filter((_, at) => at !== 4)).join(''));
     let at = 0;
     const pull = async it => {
       if (at > 0 && isCut) return it.error(new Error('cut'));

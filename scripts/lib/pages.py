@@ -27,12 +27,23 @@ def blocks(text, kind="sh"):
     return re.findall(rf"^```{kind}\n(.*?)^```$", text, re.MULTILINE | re.DOTALL)
 
 
+def titled(text):
+    """Returns the blocks of commands of a text, in their order, each behind the title above it."""
+    found, title = [], ""
+    for part in re.split(r"^(#+ [^\n]*|```sh\n.*?^```$)", text, flags=re.MULTILINE | re.DOTALL):
+        if part.startswith("#"):
+            title = part.lstrip("# ")
+        elif part.startswith("```sh\n"):
+            found.append((title, part[6:-3]))
+    return found
+
+
 def block(title, at=0, pages=OPERATING):
     """Returns the commands below a title of one of the pages: the first ones, or those after so many others."""
-    below = [it.split(f"# {title}\n", 1)[1] for it in map(page, pages) if f"# {title}\n" in it]
-    if len(below) != 1:
-        sys.exit(f"{len(below)} of {', '.join(pages)} have the title {title!r}")
-    return blocks(below[0])[at]
+    there = [it for it in map(page, pages) if f"# {title}\n" in it]
+    if len(there) != 1:
+        sys.exit(f"{len(there)} of {', '.join(pages)} have the title {title!r}")
+    return [commands for of, commands in titled(there[0]) if of == title][at]
 
 
 def shown(text):
@@ -41,6 +52,11 @@ def shown(text):
         for example in re.split(r"^\$ ", there, flags=re.MULTILINE)[1:]:
             words = re.match(r"(?:.*\\\n)*.*\n", example)[0]
             yield words, example[len(words) :]
+
+
+def orders():
+    """Returns the table of orders of docs/requests.md: the name of each, its fields, and a reply as an example."""
+    return re.findall(r"^\| `([a-z-]+)` \| ([a-z?, ]+) \| `([^`]+)` \|$", page("docs/requests.md"), re.MULTILINE)
 
 
 def links(text):

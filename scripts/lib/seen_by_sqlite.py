@@ -1,10 +1,9 @@
 """What SQLite sees of a store, in lines, and the texts of the tables in docs/schema.md."""
 
 import difflib
-import re
 import sys
 
-from lib.usbreg import TOP, content
+from lib.pages import blocks, page
 
 
 def quoted(value):
@@ -30,5 +29,4 @@ def same(what, there, wanted):
 
 def documented_texts():
     """Returns the lines of the blocks of SQL in docs/schema.md."""
-    blocks = re.findall(r"^```sql\n(.*?)^```$", content(f"{TOP}/docs/schema.md").decode(), re.DOTALL | re.MULTILINE)
-    return [f"'{text}'" for text in "".join(blocks).splitlines()]
+    return [f"'{text}'" for text in "".join(blocks(page("docs/schema.md"), "sql")).splitlines()]

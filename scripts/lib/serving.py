@@ -13,6 +13,7 @@ import subprocess
 import sys
 import time
 
+from lib.stopping import kill
 from lib.usbreg import TOP, content
 
 HOST = "127.0.0.1"
@@ -108,8 +109,7 @@ class Serving:
 
     def kill(self):
         """Kills it as `kill -9` does."""
-        self.process.kill()
-        self.process.wait()
+        kill(self.process)
 
 
 def serving(usbreg, store, count=None, port=None, **how):
