@@ -1,0 +1,4 @@
+pub mod Answers
+pub mod Bodies
+pub mod Exchanges
+pub mod Heads

@@ -1,0 +1,20 @@
+//! Why a request got no answer.
+
+/// Why a request got no answer.
+#[derive(Clone, Copy, Debug, PartialEq, Eq)]
+pub enum ExchangeFault {
+    /// The connection was not made, or not in time.
+    Open,
+    /// A write failed, or took none of the bytes.
+    Write,
+    /// A read failed, or took too long.
+    Read,
+    /// The connection ended before the answer did.
+    Ended,
+    /// The bytes that came are not the beginning of an answer in HTTP/1.1.
+    BadMessage,
+    /// The answer has more than 32 MiB and 64 KiB.
+    TooLong,
+    /// Memory ran out.
+    NoMemory,
+}
