@@ -1,6 +1,6 @@
 //! A connection in memory: it answers as it is told, and keeps what was done with it.
 
-ghost use Rattle.std.specs.Prelude.{◌≤◌, length};
+ghost use Rattle.std.specs.Prelude.{◌≤◌, ⊤, length};
 
 use byte_streams::Broken;
 use http_exchange::Connection;
