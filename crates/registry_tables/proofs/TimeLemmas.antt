@@ -1,11 +1,13 @@
 -- The times at which petitions were opened and closed.
-use Rattle.std.proofs.Common.{◌≡◌, ◌+◌, ◌<◌, ℕ, Bool, true, false, cond, nat_eq, ℤ, List, [], ◌∷◌, ◌++◌, length, take, drop, filter, map, fold, Option, Some, None, Ok, Err, Result, length-append, refl, sym, ap, subst, ◌∙◌, arith}
+use Rattle.std.proofs.Common.{◌≡◌, ◌+◌, ◌<◌, ℕ, Bool, true, false, cond, nat_eq, ℤ, List, [], ◌∷◌, ◌++◌, length, take, drop, filter, map, fold, Option, Some, None, Ok, Err, Result, IfOk, Vec, Global, length-append, refl, sym, ap, subst, ◌∙◌, arith}
 use Rattle.std.specs.Option.{option_map, option_or}
 use Rattle.std.specs.List.{AllByRecursion}
 use Rattle.std.proofs.lemmas.List.{take-map, take_all}
 use Rattle.std.proofs.lemmas.List.Sums.{fold-append}
 use Rattle.std.proofs.lemmas.List.Elements.{recursion_from_All}
 use Rattle.sqlite.specs.State.{State, IsUnchanged}
+use Rattle.sqlite.proofs.Callers.{unchanged_then}
+use Rattle.registry_schema.specs.declared.fault.TableFault.{TableFault}
 use Rattle.table_laws.specs.Inside.{GoesOn}
 use Rattle.table_laws.proofs.InsideLemmas.{goes_then}
 use Rattle.usbnum_core.specs.declared.number.Number.{Number}
@@ -218,6 +220,24 @@ page_made most after t rows digests page rows_are digests_are made h of =
     (rows_are ∙ ap (λ (l : List (ℤ × KeptRow)). take most (map (λ (k : ℤ × KeptRow). k.1) (filter (is_after after) l))) of.kept.in_order ∙ ap (take most) (replies_past after (map kept_row_of all)) ∙ rows_part most after all)
     (ap (map time_kept) digests_are ∙ sym (take-map time_kept most (filter (is_digest_after after) t.digests))
     ∙ ap (λ (l : List (ℕ × DigestRow)). take most (map time_kept (filter (is_digest_after after) l))) of.digests ∙ ap (take most) (times_past after h) ∙ take-map time_asked most (drop after all))
+
+-- the calls that read them
+pub page_read : (a b c : State) (after most : ℕ) (rows : List KeptRow) (digests : List (ℕ × DigestRow)) (result : Result (Vec Accepted Global) TableFault)
+    → GoesOn a b × ((t : Tables) → Holds a.now t → IsUnchanged a b × (rows ≡ take most (replies_after after t)))
+    → GoesOn b c × ((t : Tables) → Holds b.now t → IsUnchanged b c × (digests ≡ take most (filter (is_digest_after after) t.digests)))
+    → ((values : List Accepted) → AllByRecursion HasValidOrder values → rows ≡ map kept_row_of values → map time_kept digests ≡ map time_asked values → IfOk result (λ page. page.items ≡ values))
+    → IfOk result (λ page. GoesOn a c × ((t : Tables) → Holds a.now t → IsUnchanged a c × IsPageOf after most t page.items))
+page_read a b c after most rows digests (Err e) one two made = tt
+page_read a b c after most rows digests (Ok page) one two made = (
+  goes_then a b c one.0 two.0,
+  λ t had.
+      (let first = one.1 t had in
+      let second = two.1 t (subst (λ db. Holds db t) (sym first.0.0.now_is) had) in
+      (unchanged_then a b c first.0 second.0, page_made most after t rows digests page.items first.1 second.1 made)),
+)
+
+pub page_refused : (a b : State) (Says : Tables → Type 0) → GoesOn a b × ((t : Tables) → Holds a.now t → IsUnchanged a b × Says t) → ((t : Tables) → ¬ Holds b.now t) → (t : Tables) → ¬ Holds a.now t
+page_refused a b Says one never t had = never t (subst (λ db. Holds db t) (sym (one.1 t had).0.0.now_is) had)
 
 -- ---- page after page
 

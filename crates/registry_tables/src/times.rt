@@ -59,13 +59,13 @@ fn put_opening<S: Alter>(
 ) -> Result<(), TableFault>
     ensures writes { WritesTablesOpen S.Store tx.old.conn tx.new.conn result (λ old new. GoesOn old new × ((t : Tables) → Holds old.now t → Holds new.now (record t { opened = times_with petition time.now t.opened }))) }
 {
-    let Some(petition) = petition else {
-        return Ok(());
-    };
-    let Some(time) = time else {
-        return Ok(());
-    };
-    put_opened(tx, petition, time)
+    match petition {
+        Some(petition) => match time {
+            Some(time) => put_opened(tx, petition, time),
+            None => Ok(()),
+        },
+        None => Ok(()),
+    }
 }
 
 // Writes the time at which a petition was closed, if there are both.
@@ -76,13 +76,13 @@ fn put_closing<S: Alter>(
 ) -> Result<(), TableFault>
     ensures writes { WritesTablesOpen S.Store tx.old.conn tx.new.conn result (λ old new. GoesOn old new × ((t : Tables) → Holds old.now t → Holds new.now (record t { closed = times_with petition time.now t.closed }))) }
 {
-    let Some(petition) = petition else {
-        return Ok(());
-    };
-    let Some(time) = time else {
-        return Ok(());
-    };
-    put_closed(tx, petition, time)
+    match petition {
+        Some(petition) => match time {
+            Some(time) => put_closed(tx, petition, time),
+            None => Ok(()),
+        },
+        None => Ok(()),
+    }
 }
 
 // Writes the time of a request that opens and closes these petitions. Writes nothing for a request
