@@ -87,7 +87,7 @@ fn write<S: Alter>(
         return Err(TableFault::NoMemory);
     };
     store(alloc, tx, changes.as_slice())?;
-    summary.head = keep_reply(alloc, tx, &summary.head, request, reply)?;
+    summary.head = keep_reply(alloc, tx, &summary.head, request, &deed.act, reply)?;
     Ok(())
 }
 
