@@ -53,7 +53,7 @@ pub(crate) fn newest_meta<S: Alter>(
 {
     let mut metas = list_metas(alloc, tx)?;
     match metas.pop() {
-        Some(meta) => of_version(meta, version),
+        Some(row) => of_version(row, version),
         None => Err(TableFault::Foreign),
     }
 }
