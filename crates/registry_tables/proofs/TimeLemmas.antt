@@ -53,9 +53,9 @@ instead false time old = refl
 
 -- the times with one more are those of one more deed
 pub times_put : (by : Option ℕ) (time : Option (List ℕ)) (times : List (ℕ × List ℕ)) (at : ℕ → Option (List ℕ)) → AreTimes at times → AreTimes (λ i. option_or (time_for i time by) (at i)) (times_with by time times)
-times_put None time times at was i = was i
-times_put (Some id) None times at was i = let here : List ℕ → ℕ × List ℕ = λ x. (i, x) in was i ∙ ap (option_map here) (unless (nat_eq id i) (at i))
-times_put (Some id) (Some time) times at was i = let here : List ℕ → ℕ × List ℕ = λ x. (i, x) in reason_put id time times i (at i) (was i) ∙ ap (option_map here) (instead (nat_eq id i) time (at i))
+times_put None time times at was = was
+times_put (Some id) None times at was = λ i. (let here : List ℕ → ℕ × List ℕ = λ x. (i, x) in was i ∙ ap (option_map here) (unless (nat_eq id i) (at i)))
+times_put (Some id) (Some time) times at was = λ i. (let here : List ℕ → ℕ × List ℕ = λ x. (i, x) in reason_put id time times i (at i) (was i) ∙ ap (option_map here) (instead (nat_eq id i) time (at i)))
 
 -- so they are after a request that was just accepted
 pub times_kept : (h : History) (deed : Deed) (act : Act) (time : Option (List ℕ)) (opened closed : List (ℕ × List ℕ)) → deed.act ≡ act → deed.time ≡ time → AreTimesOf h opened closed

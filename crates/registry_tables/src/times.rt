@@ -119,7 +119,7 @@ pub(crate) struct Place {
 
 // The number of petitions after the order is accepted.
 fn asked_then(order: &Order, petitions: u32) -> Option<u32>
-    ensures { IfSome result (λ then. then ≡ asked_then order.now petitions) }
+    ensures { IfSome result (λ count. count ≡ asked_then order.now petitions) }
 {
     match order {
         Order::Ask(_) => petitions.checked_add(1),
@@ -128,11 +128,11 @@ fn asked_then(order: &Order, petitions: u32) -> Option<u32>
 }
 
 // The petition that the order opens, if there are so many petitions then.
-fn opened_then(order: &Order, then: u32) -> Option<u32>
-    ensures { (petitions : ℕ) → then ≡ asked_then order.now petitions → result ≡ opened_next order.now petitions }
+fn opened_then(order: &Order, count: u32) -> Option<u32>
+    ensures { (petitions : ℕ) → count ≡ asked_then order.now petitions → result ≡ opened_next order.now petitions }
 {
     match order {
-        Order::Ask(_) => Some(then),
+        Order::Ask(_) => Some(count),
         _ => None,
     }
 }
