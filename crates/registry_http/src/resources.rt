@@ -10,9 +10,7 @@ ghost use Rattle.registry_http.specs.Resources.{found_response, put_terms, put_t
 use crate::json_object::{object_text, put_if, put_number, put_text};
 use crate::response::{Response, json_response, reply_response};
 use http::StatusCode;
-use registry_rules::{
-    Entry, Org, Petition, PetitionState, PetitionTimes, Refusal, Reply, Terms,
-};
+use registry_rules::{Entry, Org, Petition, PetitionState, PetitionTimes, Refusal, Reply, Terms};
 use serde_json::{Map, Value};
 use std::alloc::Global;
 use usbnum_core::{Digest, NoMemory, Pid, Time, Title, Vid};

@@ -6,8 +6,8 @@ use registry_rules::{Accepted, Act, Change, Facts, Founding, ReplyText, Request,
 use registry_schema::{is_empty, version_of};
 use registry_tables::{
     TableFault, accepted_after, create, facts_for, find_petition_times, find_reason, founded_head,
-    has_meta, keep_reply, kept_reply, list_numbers, list_open_petitions, list_orgs, list_petitions, list_vendors,
-    migrate, read_summary, store,
+    has_meta, keep_reply, kept_reply, list_numbers, list_open_petitions, list_orgs, list_petitions,
+    list_vendors, migrate, read_summary, store,
 };
 use sqlite::{Alter, Connection, Transaction};
 use std::alloc::Global;
