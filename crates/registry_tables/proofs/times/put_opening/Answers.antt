@@ -15,15 +15,15 @@ returns-in-None g c = record {
   };
 }
 
-pub returns-in-Some-None : goal.returns-in-Some-None
-returns-in-Some-None g c = record {
+pub returns-in-None-time : goal.returns-in-None-time
+returns-in-None-time g c = record {
   writes = record {
     same_reference = refl;
-    done = λ clean inside is_open. (search rules, λ t had. rw (c.in-Some.is, c.in-Some-None.is) had);
+    done = λ clean inside is_open. (search rules, λ t had. rw (c.in-Some.is, c.in-None-time.is) had);
     fault = λ never. absurd cc;
     survives = search rules;
   };
 }
 
-pub returns-in-Some-Some : goal.returns-in-Some-Some
-returns-in-Some-Some g c = record { writes = written_open (λ done. (done.0, λ t had. rw (c.in-Some.is, c.in-Some-Some.is) (done.1 t had))) c.put_opened.ensures.writes }
+pub returns-in-Some-time : goal.returns-in-Some-time
+returns-in-Some-time g c = record { writes = written_open (λ done. (done.0, λ t had. rw (c.in-Some.is, c.in-Some-time.is) (done.1 t had))) c.put_opened.ensures.writes }
