@@ -60,8 +60,10 @@ DELETE FROM petitions;
 INSERT INTO vendors VALUES (4617, 'Shared products');
 CREATE TABLE digests4 (id INTEGER PRIMARY KEY, time TEXT, digest TEXT NOT NULL) STRICT;
 CREATE TABLE reasons4 (petition INTEGER PRIMARY KEY, reason TEXT NOT NULL) STRICT;
+CREATE TABLE opened5 (petition INTEGER PRIMARY KEY, time TEXT NOT NULL) STRICT;
+CREATE TABLE closed5 (petition INTEGER PRIMARY KEY, time TEXT NOT NULL) STRICT;
 INSERT INTO digests4 VALUES (0, NULL, printf('%064d', 0));
-UPDATE meta SET version = 4;
+UPDATE meta SET version = 5;
 """
 
 

@@ -68,7 +68,7 @@ def what_is_not_acted_on(room):
     changed = room.founded("changed")
     for store, change in (
         (f"{room.folder}/other.db", "CREATE TABLE songs (title TEXT NOT NULL) STRICT"),
-        (changed, "UPDATE meta SET version = 5"),
+        (changed, "UPDATE meta SET version = 6"),
     ):
         change_from_outside(store, change)
         before = tables(store)

@@ -74,6 +74,7 @@ def lacking(history, sent):
     came = {
         "a time": any(it.get("at") for it in history.deeds), "no time": any(not it.get("at") for it in history.deeds),
         "a repeat at another time": others, "a reason": history.tables()["reasons4"],
+        "an opening at a time": history.tables()["opened5"], "a closing at a time": history.tables()["closed5"],
     }
     return {name for name, met in came.items() if not met}
 

@@ -30,7 +30,7 @@ from lib.usbreg import EXAMPLES, FOUNDING, TOP, content, copy, done, folder, ope
 TABLE = f"{TOP}/cases/nearly_registries.txt"
 FAULTS = {f"fault: {it}\n".encode(): it for it in ("file", "foreign", "memory", "spent", "store", "taken")}
 LINK = "https://acme.example/"
-SCHEMAS = (*COUNTS, 4)
+SCHEMAS = (*COUNTS, 5)
 # A log that holds no commit has at most its header and the beginning of a frame.
 EMPTY_LOG = 41
 # The commands over stores without checksums.
@@ -39,7 +39,7 @@ HEAD = """\
 What the commands do over stores that are nearly registries. scripts/nearly_registries.py makes the stores, compares the
 results with this table, and writes it with --write.
 
-Below a change to a sound store is its result in schemas 1, 2, 3 and 4, each with and without checksums: the same, unless it
+Below a change to a sound store is its result in schemas 1, 2, 3, 4 and 5, each with and without checksums: the same, unless it
 says so. The commands are export, report (petitions and numbers), history, head, apply (an ask, a grant and an enrol), import,
 replay (the record of the sound store), serve (GET /history/0 and then GET /petitions/3) and found.
 
@@ -147,12 +147,12 @@ def rows_of(store):
             columns = [it[0] for it in shown.description]
             for row in shown:
                 rows.update(moved(name, dict(zip(columns, row, strict=True))))
-    return 4 if "reasons4" in names else 3 if "petitions3" in names else 2 if "spans" in names else 1, rows
+    return 5 if "closed5" in names else 4 if "reasons4" in names else 3 if "petitions3" in names else 2 if "spans" in names else 1, rows
 
 
 def moved(name, row):
     """Yields a row as a table and its values, by the names of the newest schema and without vendor."""
-    table = name.rstrip("34")
+    table = name.rstrip("345")
     if name == "meta":
         row = {it: row[it] for it in row if it != "version"}
     if table == "spans" and isinstance(row.get("hi"), int):

@@ -1,9 +1,9 @@
 #!/usr/bin/env python3
 """Opens stores of the older schemas with `usbreg`, and compares them with the same history founded today.
 
-SQLite makes the stores: from examples/schema1.sql, schema2.sql and schema3.sql there, whose texts are those of docs/schema.md and
+SQLite makes the stores: from examples/schema1.sql to schema4.sql there, whose texts are those of docs/schema.md and
 whose rows are those of a plain history after examples/one_vendor.requests; then from the rows of the cases in `cases/`
-and of random requests, except for those that name a vendor. Whichever command opens such a store first, it prints what it
+and of random requests, except for those that name a vendor, and for schema 4 with such ones, with times and with reasons. Whichever command opens such a store first, it prints what it
 prints for a registry that was founded today by the same requests: the list, the reports, the record in its order, and its
 head. The rows of all tables are the same. Each accepted request gets its first reply again, and later requests do the same to both.
 
@@ -23,7 +23,7 @@ import sys
 import time
 
 from lib.beside_plain import Registry, Room
-from lib.older_stores import COUNTS, in_order, in_schema, make, rows_of
+from lib.older_stores import COUNTS, NEWEST, in_order, in_schema, make, rows_of
 from lib.requests import Chance, all_cases, request, requests_in
 from lib.seen_by_sqlite import asked, documented_texts, same
 from lib.stopping import killed
@@ -125,7 +125,7 @@ def later_requests():
 
 
 def examples(stores):
-    """Checks that the stores of the two texts are those of the requests, and open as the same history by any command."""
+    """Checks that the stores of the texts are those of the requests, and open as the same history by any command."""
     requests = requests_in(f"{EXAMPLES}/one_vendor.requests")
     today, accepted = stores.today("the examples", requests)
     if len(accepted) != len(requests):
@@ -180,12 +180,20 @@ def histories(stores):
         for version in COUNTS:
             store = make(f"{stores.folder}/older.db", version, rows_as_kept(today.store))
             stores.opens_as(what, version, store, today, accepted, more)
-    return len(all_histories)
+    # In schema 4 requests have times, and name vendors.
+    for seed in (5, 6):
+        chance = Chance(seed)
+        what = f"requests with times made up by {seed}"
+        today, accepted = stores.today(what, [chance.request() for _ in range(300)], curator="ann", fixed="0007")
+        if not all(today.history.tables()[it] for it in NEWEST):
+            sys.exit(f"{what} open or close no petition at a time")
+        stores.opens_as(what, 4, make(f"{stores.folder}/older.db", 4, rows_as_kept(today.store)), today, accepted, more)
+    return len(all_histories) + 2
 
 
 def stops_from(version, stores, today, stops):
     """Kills the opening of a store with many rows the given number of times. Returns how often each schema was left."""
-    wanted = {4: rows_of(today)} | {it: in_order(in_schema(it, rows_of(today))) for it in range(version, 4)}
+    wanted = {5: rows_of(today)} | {it: in_order(in_schema(it, rows_of(today))) for it in range(version, 5)}
     whole = make(f"{stores.folder}/whole.db", version, rows_as_kept(today))
     store = copy(whole, f"{stores.folder}/stopped.db")
     words = [stores.program, "report", store, "census"]
@@ -199,10 +207,10 @@ def stops_from(version, stores, today, stops):
         again = not killed(words, random.uniform(0, 1.1 * seconds))
         there = rows_of(copy(store, f"{stores.folder}/looked.db"))
         reached = there["meta"][0][1]
-        same_rows(f"a stop from schema {version} left schema {reached}", there, wanted.get(reached, wanted[4]))
+        same_rows(f"a stop from schema {version} left schema {reached}", there, wanted.get(reached, wanted[5]))
         if not again:
             left[reached] += 1
-            again = reached == 4
+            again = reached == 5
             if again and done(words) != census:
                 sys.exit("what a stop left has another census")
     return left
@@ -219,8 +227,8 @@ def stops(stores, count):
 
 def foreign_changes(version):
     """Returns changes by another program that make it no store of this schema."""
-    yield from (f"UPDATE meta SET version = {it}" for it in (-1, 0, 1, 2, 3, 4, 5, 259) if it != version)
-    last = {1: "kept", 2: "spans", 3: "petitions3", 4: "reasons4"}[version]
+    yield from (f"UPDATE meta SET version = {it}" for it in (-1, 0, 1, 2, 3, 4, 5, 6, 259) if it != version)
+    last = {1: "kept", 2: "spans", 3: "petitions3", 4: "reasons4", 5: "closed5"}[version]
     yield from (f"ALTER TABLE {it} RENAME TO other" for it in ("meta", "orgs", last))
     yield f"DROP TABLE {last}"
     yield "CREATE TABLE other (title TEXT NOT NULL) STRICT"
@@ -231,10 +239,10 @@ def foreign_stores(stores):
     """Checks that any command reports a store of no schema, and writes nothing to it."""
     lines = write(f"{stores.folder}/lines.jsonl", content(f"{EXAMPLES}/first.jsonl").decode())
     count = 0
-    for version in (1, 2, 3, 4):
+    for version in (*COUNTS, 5):
         store = f"{stores.folder}/foreign.db"
         for change in foreign_changes(version):
-            if version == 4:
+            if version == 5:
                 found(stores.program, store)
             else:
                 older(store, version)

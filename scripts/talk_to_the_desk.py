@@ -165,8 +165,9 @@ def heads(usbreg, room):
                 same(f"{it}", exchange(server.port, command(it)).partition(b"\r\n\r\n")[2], compact(history.answer(it)) + b"\n")
             same(f"the head after {it}", exchange(server.port, get("/head")), response(compact(history.head()) + b"\n"))
         card = {"licence": "MIT", "org": "acme", "site": LINK, "source": LINK, "state": "declined", "title": "Lamp"}
-        for number, reason in ((1, {"reason": "No files at the link"}), (2, {})):
-            same(f"petition {number}", exchange(server.port, get(f"/petitions/{number}")), response(compact(card | {"id": number} | reason) + b"\n"))
+        shown = {1: {"reason": "No files at the link", "closed": TIME}, 2: {"opened": "2026-11-29T00:00:00Z"}}
+        for number, more in shown.items():
+            same(f"petition {number}", exchange(server.port, get(f"/petitions/{number}")), response(compact(card | {"id": number} | more) + b"\n"))
     same("the record", printed([usbreg, "history", store]), "".join(f"{it}\n" for it in history.record()).encode())
 
 

@@ -7,13 +7,13 @@ from lib.usbreg import blank_page, opened, remove, seal
 
 # The tables whose rows the newest schema has in a table with another name, and those that are empty then.
 NEWEST = {"petitions": "petitions3", "entries": "entries3", "spans": "spans3"}
-OLDER = {1: (), 2: ("reserved",), **dict.fromkeys((3, 4), ("petitions", "entries", "reserved", "spans"))}
+OLDER = {1: (), 2: ("reserved",), **dict.fromkeys((3, 4, 5), ("petitions", "entries", "reserved", "spans"))}
 # Statements on a sound store, by the schemas that have their tables and columns; {entries} is the table of its schema.
 # In each store one of them is run. Petition 5 is open, 1 is granted, and 0300 is a number without terms.
 STATEMENTS = (
     (
         "`meta`",
-        (1, 2, 3, 4),
+        (1, 2, 3, 4, 5),
         """DELETE FROM meta
         INSERT INTO meta SELECT 2, version, vendor, name FROM meta
         INSERT INTO meta SELECT 2, version, 51966, 'Other' FROM meta
@@ -31,7 +31,7 @@ STATEMENTS = (
     ),
     (
         "the founding",
-        (1, 2, 3, 4),
+        (1, 2, 3, 4, 5),
         """DELETE FROM curators
         UPDATE curators SET name = 'Cora'
         WITH RECURSIVE n (n) AS (SELECT 1 UNION ALL SELECT n + 1 FROM n WHERE n < 64) INSERT INTO curators SELECT 'c' || n FROM n
@@ -44,7 +44,7 @@ STATEMENTS = (
     ),
     (
         "organisations",
-        (1, 2, 3, 4),
+        (1, 2, 3, 4, 5),
         """DELETE FROM orgs
         UPDATE orgs SET slug = 'Acme' WHERE slug = 'acme'
         UPDATE orgs SET title = 'Ac' || char(9) || 'me' WHERE slug = 'acme'
@@ -56,7 +56,7 @@ STATEMENTS = (
     ),
     (
         "petitions",
-        (1, 2, 3, 4),
+        (1, 2, 3, 4, 5),
         """DELETE FROM {petitions}
         DELETE FROM {petitions} WHERE id = 3
         DELETE FROM {petitions} WHERE id = 6
@@ -75,7 +75,7 @@ STATEMENTS = (
     ),
     (
         "numbers",
-        (1, 2, 3, 4),
+        (1, 2, 3, 4, 5),
         """DELETE FROM {entries}
         UPDATE {entries} SET pid = 0 WHERE pid = 768
         UPDATE {entries} SET pid = 65536 WHERE pid = 768
@@ -97,7 +97,7 @@ STATEMENTS = (
     ),
     (
         "reserved numbers",
-        (2, 3, 4),
+        (2, 3, 4, 5),
         """UPDATE {spans} SET lo = 0 WHERE lo = 8192
         UPDATE {spans} SET hi = 65536 WHERE lo = 8224
         UPDATE {spans} SET hi = 1 WHERE lo = 8224
@@ -107,7 +107,7 @@ STATEMENTS = (
     ),
     (
         "vendors",
-        (3, 4),
+        (3, 4, 5),
         """DELETE FROM vendors
         UPDATE vendors SET name = ''
         UPDATE vendors SET name = 'Other'
@@ -121,7 +121,7 @@ STATEMENTS = (
     ),
     (
         "`kept`",
-        (1, 2, 3, 4),
+        (1, 2, 3, 4, 5),
         """DELETE FROM kept
         DELETE FROM kept WHERE rowid = 5
         DELETE FROM kept WHERE rowid = 19
@@ -138,7 +138,7 @@ STATEMENTS = (
     ),
     (
         "digests and times",
-        (4,),
+        (4, 5),
         """DELETE FROM digests4
         DELETE FROM digests4 WHERE id = 0
         DELETE FROM digests4 WHERE id = 5
@@ -159,7 +159,7 @@ STATEMENTS = (
     ),
     (
         "reasons",
-        (4,),
+        (4, 5),
         """INSERT INTO reasons4 VALUES (0, 'Spam')
         INSERT INTO reasons4 VALUES (3, '')
         INSERT INTO reasons4 VALUES (3, 'Spam')
@@ -195,7 +195,7 @@ class Plan:
         """Returns what the tables of all schemas with such rows are called."""
         if table in OLDER[self.version]:
             return f"older {table}"
-        return table.rstrip("34")
+        return table.rstrip("345")
 
     def columns(self, table):
         """Returns the parts of a table's text: its columns, and its key if that is one of several."""

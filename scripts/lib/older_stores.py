@@ -6,18 +6,23 @@ import sys
 
 from lib.usbreg import older_text, opened, remove
 
-# The tables of the newest schema that replace older ones, those that only it has, and the numbers of tables of the older
-# schemas.
+# The tables of the third schema that replace older ones, those that the fourth and the newest add, and the numbers of tables of
+# the older schemas.
 NEW = {"vendors", "spans3", "entries3", "petitions3"}
-NEWEST = {"digests4", "reasons4"}
-COUNTS = {1: 9, 2: 10, 3: 14}
+FOURTH = {"digests4", "reasons4"}
+NEWEST = {"opened5", "closed5"}
+COUNTS = {1: 9, 2: 10, 3: 14, 4: 16}
 
 
 def in_schema(version, tables):
-    """Returns the rows of the same history, which has no times and no reasons, in an older schema, from those in the newest."""
+    """Returns the rows of the same history in an older schema, from those in the newest. Below the fourth it has no times
+    and no reasons."""
     ((_, _, vendor, name),) = tables["meta"]
     spans = [row[1:] for row in tables["spans3"]]
     rows = {it: tables[it] for it in tables if it not in NEWEST} | {"meta": [(1, version, vendor, name)]}
+    if version == 4:
+        return rows
+    rows = {it: rows[it] for it in rows if it not in FOURTH}
     if version == 3:
         return rows
     rows = {it: rows[it] for it in rows if it not in NEW and it != "spans"}

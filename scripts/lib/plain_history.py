@@ -400,7 +400,7 @@ class History:
     def tables(self):
         """Returns the rows of each table, ascending."""
         return {
-            "meta": [(1, 4, self.founder, self.founding["name"])],
+            "meta": [(1, 5, self.founder, self.founding["name"])],
             "curators": sorted((it,) for it in self.founding["curators"]),
             "licences": sorted((it,) for it in self.licences()),
             "fixed": sorted((int(it.split("-")[0], 16), int(it.split("-")[-1], 16)) for it in self.founding["fixed"]),
@@ -411,6 +411,8 @@ class History:
             "petitions3": [self.petition_row(*it) for it in enumerate(self.of_order("ask"), 1)],
             "digests4": self.digests(),
             "reasons4": [(it["petition"], it["reason"]) for it in self.of_order("decline") if it.get("reason")],
+            "opened5": [(number, it["at"]) for number, it in enumerate(self.of_order("ask"), 1) if it.get("at")],
+            "closed5": sorted((it["petition"], it["at"]) for it in self.of_order(*STATES) if it.get("at")),
             "kept": sorted(self.kept()),
             **{older: [] for older in ("petitions", "entries", "reserved", "spans")},
         }

@@ -11,9 +11,9 @@ const SUM: usize = 8;
 
 /// The newest schema, and its tables in their order, as docs/schema.md has them. An older one has the
 /// first of these.
-const NEWEST: u64 = 4;
+const NEWEST: u64 = 5;
 
-const TABLES: [&str; 16] = [
+const TABLES: [&str; 18] = [
     "meta",
     "curators",
     "licences",
@@ -30,6 +30,8 @@ const TABLES: [&str; 16] = [
     "petitions3",
     "digests4",
     "reasons4",
+    "opened5",
+    "closed5",
 ];
 
 /// The most characters that are shown of a name.
@@ -160,6 +162,7 @@ fn count_in(version: u64) -> Option<usize> {
         2 => Some(10),
         3 => Some(14),
         4 => Some(16),
+        5 => Some(18),
         _ => None,
     }
 }

@@ -5,7 +5,7 @@ use Rattle.sqlite.specs.State.{State, HasCleanDisk, IsLive, Survives}
 use Rattle.sqlite.specs.Store.{Ghosts}
 use Rattle.sqlite.specs.Tree.{Trees}
 use Rattle.registry_schema.specs.Meta.{has_meta_table}
-use Rattle.registry_schema.proofs.VersionLemmas.{has_schema_1, has_schema_2, has_schema_3, has_schema_4, meta_first, meta_second, meta_third, meta_fourth}
+use Rattle.registry_schema.proofs.VersionLemmas.{has_schema_1, has_schema_2, has_schema_3, has_schema_4, has_schema_5, meta_first, meta_second, meta_third, meta_fourth, meta_fifth}
 use Rattle.std.specs.Prelude.{◌≢◌}
 use Rattle.table_laws.specs.Inside.{CommitsNothing}
 use Rattle.registry_rules.specs.declared.founding.Founding.{Founding}
@@ -28,7 +28,8 @@ has_meta : (vid version : ℕ) (t : Tables) (s : State) → IsLive s → IsTrue 
 has_meta vid version t s live is_open (inl is) = ap has_meta_table (has_schema_1 s live is_open is.1.has) ∙ meta_first
 has_meta vid version t s live is_open (inr (inl is)) = ap has_meta_table (has_schema_2 s live is_open is.1.has) ∙ meta_second
 has_meta vid version t s live is_open (inr (inr (inl is))) = ap has_meta_table (has_schema_3 s live is_open is.1.has) ∙ meta_third
-has_meta vid version t s live is_open (inr (inr (inr is))) = ap has_meta_table (has_schema_4 s live is_open is.1.has) ∙ meta_fourth
+has_meta vid version t s live is_open (inr (inr (inr (inl is)))) = ap has_meta_table (has_schema_4 s live is_open is.1.has) ∙ meta_fourth
+has_meta vid version t s live is_open (inr (inr (inr (inr is)))) = ap has_meta_table (has_schema_5 s live is_open is.1.has) ∙ meta_fifth
 
 rows_meta : (version : ℕ) (s : State) (h : History) → IsLive s → IsTrue s.is_open → Rows version s.now.trees h → has_meta_table s.now.schema ≡ true
 unfolding Rows

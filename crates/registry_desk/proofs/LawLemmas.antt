@@ -14,6 +14,7 @@ use Rattle.usbnum_core.specs.declared.number.Number.{Number}
 use Rattle.usbnum_core.specs.declared.number.Span.{Span}
 use Rattle.registry_rules.specs.History.{History}
 use Rattle.registry_rules.specs.Number.{number}
+use Rattle.registry_rules.specs.Query.{petition_of, reason_of}
 use Rattle.registry_rules.specs.Texts.{AreSorted}
 use Rattle.registry_rules.specs.declared.founding.Founding.{Founding}
 use Rattle.registry_rules.specs.declared.record.Entry.{Entry}
@@ -36,7 +37,7 @@ use Rattle.registry_http.specs.declared.route.Query.{Query}
 use Rattle.registry_reports.specs.declared.kinds.ReportKind.TheVariants as reports
 use Rattle.registry_http.specs.declared.message.Message.TheVariants as messages
 use Rattle.registry_http.specs.Foundings.{founding_response}
-use Rattle.registry_http.specs.Resources.{head_response}
+use Rattle.registry_http.specs.Resources.{head_response, petition_response}
 use Rattle.registry_tables.specs.Head.{digest_at}
 use Rattle.registry_http.specs.Responses.{page_response, text_response}
 use Rattle.usbids_text.specs.Entries.{TopEntry}
@@ -179,7 +180,8 @@ one_of_query h queries.List a b valid is_a is_b = is_a.2 ∙ (ap (λ (doc : List
 one_of_query h (queries.Number None pid) a b valid is_a is_b = is_a ∙ sym is_b
 one_of_query h (queries.Number (Some vid) pid) a b valid is_a is_b = is_a ∙ sym is_b
 one_of_query h (queries.Org org) a b valid is_a is_b = is_a ∙ sym is_b
-one_of_query h (queries.Petition id) a b valid is_a is_b = is_a ∙ sym is_b
+one_of_query h (queries.Petition id) a b valid is_a is_b =
+    is_a.2 ∙ (ap (petition_response h.founding.vendor id (petition_of h id) (reason_of h id)) (is_a.1 valid ∙ sym (is_b.1 valid)) ∙ sym is_b.2)
 one_of_query h queries.Founding a b valid is_a is_b = one_founding_response h a b is_a is_b
 one_of_query h queries.FirstFounding a b valid is_a is_b = is_a ∙ sym is_b
 one_of_query h queries.Head a b valid is_a is_b =

@@ -6,13 +6,14 @@ use Rattle.usbids_text.specs.Entries.{TopEntry}
 use Rattle.usbids_text.specs.Writing.{written}
 use Rattle.registry_rules.specs.History.{History}
 use Rattle.registry_rules.specs.Number.{number}
-use Rattle.registry_rules.specs.Query.{is_reserved, has_vendor, org_of, petition_of, reason_of}
+use Rattle.registry_rules.specs.Query.{is_reserved, has_vendor, org_of, petition_of, reason_of, petition_times}
 use Rattle.registry_rules.specs.Records.{entry_of}
 use Rattle.registry_rules.specs.Run.{after_one, reply_to}
 use Rattle.registry_rules.specs.Accepted.{AreValid}
 use Rattle.registry_rules.specs.FactsOf.{IsCurrentFounding}
 use Rattle.registry_rules.specs.Texts.{IsLicences}
 use Rattle.registry_rules.specs.declared.founding.Founding.{Founding}
+use Rattle.registry_rules.specs.declared.record.PetitionTimes.{PetitionTimes}
 use Rattle.registry_rules.specs.declared.record.Vendor.{Vendor}
 use Rattle.registry_rules.specs.declared.refusal.Refusal.TheVariants.{NoVendor}
 use Rattle.registry_rules.specs.declared.verdict.Reply.TheVariants.{Refused}
@@ -69,6 +70,11 @@ pub record IsFoundingResponse (h : History) (response : Response) : Type 0 where
 abbrev pub first_founding_response : Founding → Response
 first_founding_response founding = text_response (founding_line founding ++ 10 ∷ [])
 
+-- the response has the petition, the reason why it was declined and, if the requests of the history have valid fields, its times
+abbrev pub IsPetitionResponse : History → ℕ → Response → Type 0
+IsPetitionResponse h id response =
+    (times : PetitionTimes) × (AreValid h.deeds → times ≡ petition_times h id) × (response ≡ petition_response h.founding.vendor id (petition_of h id) (reason_of h id) times)
+
 -- the response has the head of the record, if its requests have valid fields
 abbrev pub IsHeadResponse : History → Response → Type 0
 IsHeadResponse h response = (head : Head) × IsHead h head × (response ≡ head_response head.count head.digest head.time)
@@ -84,7 +90,7 @@ IsQueryResponse h (queries.Number None pid) response =
     response ≡ number_response None pid (is_reserved h (number h.founding.vendor pid)) (entry_of h (number h.founding.vendor pid))
 IsQueryResponse h (queries.Number (Some vid) pid) response = response ≡ vendor_number_at h vid pid
 IsQueryResponse h (queries.Org org) response = response ≡ org_response (org_of h org)
-IsQueryResponse h (queries.Petition id) response = response ≡ petition_response h.founding.vendor id (petition_of h id) (reason_of h id)
+IsQueryResponse h (queries.Petition id) response = IsPetitionResponse h id response
 IsQueryResponse h (queries.Report kind) response = IsReportResponse h kind response
 IsQueryResponse h queries.Founding response = IsFoundingResponse h response
 IsQueryResponse h queries.FirstFounding response = response ≡ first_founding_response h.founding
@@ -164,7 +170,7 @@ IsDetermined h (Ok (messages.Query queries.Head)) = AreValid h.deeds
 IsDetermined h (Ok (messages.Query queries.List)) = Unit {0}
 IsDetermined h (Ok (messages.Query (queries.Number vendor pid))) = Unit {0}
 IsDetermined h (Ok (messages.Query (queries.Org org))) = Unit {0}
-IsDetermined h (Ok (messages.Query (queries.Petition id))) = Unit {0}
+IsDetermined h (Ok (messages.Query (queries.Petition id))) = AreValid h.deeds
 IsDetermined h (Ok (messages.Query queries.Founding)) = Unit {0}
 IsDetermined h (Ok (messages.Query queries.FirstFounding)) = Unit {0}
 IsDetermined h (Ok (messages.Query (queries.Report kind))) = Unit {0}

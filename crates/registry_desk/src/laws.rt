@@ -3,8 +3,8 @@
 ghost use Rattle.registry_desk.specs.Acting.{HasOneResponse};
 ghost use Rattle.registry_desk.specs.Server.{LeavesAnswered};
 
-/// Proves that a history has one response to what a message says; to a query for its record, if
-/// the requests in it have valid fields. With `registry_http::says_one_thing` the response follows
+/// Proves that a history has one response to what a message says; to a query for its record or for a
+/// petition, if the requests in it have valid fields. With `registry_http::says_one_thing` the response follows
 /// from the history and the bytes alone, however they were cut.
 pub fn has_one_response()
     ensures { HasOneResponse }

@@ -3,14 +3,14 @@
 ghost use Rattle.std.specs.Prelude.{◌≡◌, None, IfOk, IfErr};
 ghost use Rattle.usbids_text.specs.Writing.{written};
 ghost use Rattle.registry_rules.specs.Number.{number};
-ghost use Rattle.registry_rules.specs.Query.{is_reserved, org_of, petition_of, reason_of};
+ghost use Rattle.registry_rules.specs.Query.{is_reserved, org_of};
 ghost use Rattle.registry_rules.specs.Records.{entry_of};
 ghost use Rattle.registry_rules.specs.declared.verdict.Reply.TheVariants as replies;
 ghost use Rattle.registry_rules.specs.declared.refusal.Refusal.TheVariants as rule_refusals;
 ghost use Rattle.registry_http.specs.Responses.{reply_response, text_response};
-ghost use Rattle.registry_http.specs.Resources.{number_response, org_response, petition_response};
+ghost use Rattle.registry_http.specs.Resources.{number_response, org_response};
 ghost use Rattle.registry_desk.specs.declared.fault.DeskFault.TheVariants as desk_faults;
-ghost use Rattle.registry_desk.specs.Acting.{IsAsked, IsFoundingResponse, IsHeadResponse, IsHistoryResponse, IsListResponse, IsQueryResponse, IsReportResponse, first_founding_response, vendor_number_at};
+ghost use Rattle.registry_desk.specs.Acting.{IsAsked, IsFoundingResponse, IsHeadResponse, IsHistoryResponse, IsListResponse, IsPetitionResponse, IsQueryResponse, IsReportResponse, first_founding_response, vendor_number_at};
 
 use crate::fault::{DeskFault, failed_by};
 use byte_streams::Outlet;
@@ -79,18 +79,26 @@ fn ask_org<S: Alter>(
     Ok(org_response(alloc, org.as_ref())?)
 }
 
-/// Looks up a petition, and why it was declined.
+/// Looks up a petition, why it was declined, and when it was opened and closed.
 fn ask_petition<S: Alter>(
     alloc: Global,
     registry: &mut Registry<S>,
     id: u32,
 ) -> Result<Response, DeskFault>
-    ensures { IsAsked registry.old registry.new result (λ h response. response ≡ petition_response h.founding.vendor id (petition_of h id) (reason_of h id)) }
+    ensures { IsAsked registry.old registry.new result (λ h response. IsPetitionResponse h id response) }
 {
     let founding = registry.founding().vendor;
     let petition = registry.petition(id)?;
     let reason = registry.reason(id)?;
-    Ok(petition_response(alloc, founding, id, petition.as_ref(), reason.as_ref())?)
+    let times = registry.petition_times(id)?;
+    Ok(petition_response(
+        alloc,
+        founding,
+        id,
+        petition.as_ref(),
+        reason.as_ref(),
+        &times,
+    )?)
 }
 
 /// Returns the response with the text of the document, without a stamp.

@@ -7,6 +7,7 @@ use Rattle.registry_rules.specs.declared.record.Entry.{Entry}
 use Rattle.registry_rules.specs.declared.record.Org.{Org}
 use Rattle.registry_rules.specs.declared.record.Petition.{Petition}
 use Rattle.registry_rules.specs.declared.record.PetitionState.{PetitionState}
+use Rattle.registry_rules.specs.declared.record.PetitionTimes.{PetitionTimes}
 use Rattle.registry_rules.specs.declared.record.PetitionState.TheVariants.{Open, Granted, Declined, Withdrawn}
 use Rattle.registry_rules.specs.declared.record.Terms.{Terms}
 use Rattle.registry_rules.specs.declared.refusal.Refusal.TheVariants.{NoOrg, NoPetition}
@@ -96,14 +97,18 @@ put_numbers founding petition members =
     (put_if (codes "want") (option_map digits_of petition.want)
     (put_if (codes "vendor") (option_map digits_of (other_vendor founding petition.vid)) members))
 
--- the reason why it was declined too, if one was given
-unfoldable pub petition_members : ℕ → ℕ → Petition → Option (List ℕ) → Members
-petition_members founding id petition reason = put_if (codes "reason") reason (put_numbers founding petition (put_asked id petition no_members))
+-- the times at which it was opened and closed
+unfoldable pub put_times : PetitionTimes → Members → Members
+put_times times members = put_if (codes "closed") times.closed (put_if (codes "opened") times.opened members)
+
+-- the reason why it was declined too, if one was given, and the times
+unfoldable pub petition_members : ℕ → ℕ → Petition → Option (List ℕ) → PetitionTimes → Members
+petition_members founding id petition reason times = put_times times (put_if (codes "reason") reason (put_numbers founding petition (put_asked id petition no_members)))
 
 -- refusal 6 if there is no such petition
-abbrev pub petition_response : ℕ → ℕ → Option Petition → Option (List ℕ) → Response
-petition_response founding id None reason = reply_response (Refused NoPetition)
-petition_response founding id (Some petition) reason = found_response (petition_members founding id petition reason)
+abbrev pub petition_response : ℕ → ℕ → Option Petition → Option (List ℕ) → PetitionTimes → Response
+petition_response founding id None reason times = reply_response (Refused NoPetition)
+petition_response founding id (Some petition) reason times = found_response (petition_members founding id petition reason times)
 
 -- ---- the head of the record
 

@@ -5,12 +5,12 @@ ghost use Rattle.serde_json.specs.View.{members_view};
 ghost use Rattle.serde_json.specs.Written.{members_have_float};
 ghost use Rattle.usbnum_core.specs.Number.{digits_of};
 ghost use Rattle.registry_http.specs.Objects.{put_text, put_if};
-ghost use Rattle.registry_http.specs.Resources.{found_response, put_terms, put_terms_if, held_text, put_entry, put_state, number_members, number_response, org_members, org_response, state_text, granted_of, other_vendor, put_asked, put_numbers, petition_members, petition_response, head_response};
+ghost use Rattle.registry_http.specs.Resources.{found_response, put_terms, put_terms_if, held_text, put_entry, put_state, number_members, number_response, org_members, org_response, state_text, granted_of, other_vendor, put_asked, put_numbers, put_times, petition_members, petition_response, head_response};
 
 use crate::json_object::{object_text, put_if, put_number, put_text};
 use crate::response::{Response, json_response, reply_response};
 use http::StatusCode;
-use registry_rules::{Entry, Org, Petition, PetitionState, Refusal, Reply, Terms};
+use registry_rules::{Entry, Org, Petition, PetitionState, PetitionTimes, Refusal, Reply, Terms};
 use serde_json::{Map, Value};
 use std::alloc::Global;
 use usbnum_core::{Digest, NoMemory, Pid, Time, Title, Vid};
@@ -251,6 +251,34 @@ fn put_reason_if(
     }
 }
 
+fn put_time_if(
+    alloc: Global,
+    members: &mut Map<String, Value>,
+    key: &str,
+    time: Option<&Time>,
+) -> Result<(), NoMemory>
+    ensures value { OnOk result (members_view members.new.entries ≡ put_if key.now (option_copied time.entry) (members_view members.old.entries)) }
+    ensures plain { OnOk result (members_have_float (members_view members.old.entries) ≡ false → members_have_float (members_view members.new.entries) ≡ false) }
+{
+    match time {
+        Some(time) => put_text(alloc, members, key, time.as_str()),
+        None => Ok(()),
+    }
+}
+
+#[tactic(auto, unfolding(crate::specs::Resources::put_times))]
+fn put_times(
+    alloc: Global,
+    members: &mut Map<String, Value>,
+    times: &PetitionTimes,
+) -> Result<(), NoMemory>
+    ensures value { OnOk result (members_view members.new.entries ≡ put_times times.now (members_view members.old.entries)) }
+    ensures plain { OnOk result (members_have_float (members_view members.old.entries) ≡ false → members_have_float (members_view members.new.entries) ≡ false) }
+{
+    put_time_if(alloc, members, "opened", times.opened.as_ref())?;
+    put_time_if(alloc, members, "closed", times.closed.as_ref())
+}
+
 #[tactic(auto, unfolding(crate::specs::Resources::petition_members))]
 fn found_petition(
     alloc: Global,
@@ -258,44 +286,34 @@ fn found_petition(
     id: u32,
     petition: &Petition,
     reason: Option<&Title>,
+    times: &PetitionTimes,
 ) -> Result<Response, NoMemory>
-    ensures { IfOk result (λ response. response ≡ found_response (petition_members founding id petition.now (option_copied reason.entry))) }
+    ensures { IfOk result (λ response. response ≡ found_response (petition_members founding id petition.now (option_copied reason.entry) times.now)) }
 {
     let mut members = Map::new(alloc);
     put_asked(alloc, &mut members, id, petition)?;
     put_numbers(alloc, &mut members, founding, petition)?;
     put_reason_if(alloc, &mut members, reason)?;
+    put_times(alloc, &mut members, times)?;
     found_response(alloc, members)
 }
 
 /// Makes the response to a query for a petition to a registry with this founding vendor, with the
-/// reason why it was declined, if one was given; or refusal 6 if there is no such petition.
+/// reason why it was declined, if one was given, and the times at which it was opened and closed; or
+/// refusal 6 if there is no such petition.
 pub fn petition_response(
     alloc: Global,
     founding: Vid,
     id: u32,
     petition: Option<&Petition>,
     reason: Option<&Title>,
+    times: &PetitionTimes,
 ) -> Result<Response, NoMemory>
-    ensures { IfOk result (λ response. response ≡ petition_response founding id (option_copied petition.entry) (option_copied reason.entry)) }
+    ensures { IfOk result (λ response. response ≡ petition_response founding id (option_copied petition.entry) (option_copied reason.entry) times.now) }
 {
     match petition {
-        Some(petition) => found_petition(alloc, founding, id, petition, reason),
+        Some(petition) => found_petition(alloc, founding, id, petition, reason, times),
         None => reply_response(alloc, &Reply::Refused(Refusal::NoPetition)),
-    }
-}
-
-fn put_time_if(
-    alloc: Global,
-    members: &mut Map<String, Value>,
-    time: Option<&Time>,
-) -> Result<(), NoMemory>
-    ensures value { OnOk result (members_view members.new.entries ≡ put_if (codes "time") (option_copied time.entry) (members_view members.old.entries)) }
-    ensures plain { OnOk result (members_have_float (members_view members.old.entries) ≡ false → members_have_float (members_view members.new.entries) ≡ false) }
-{
-    match time {
-        Some(time) => put_text(alloc, members, "time", time.as_str()),
-        None => Ok(()),
     }
 }
 
@@ -313,6 +331,6 @@ pub fn head_response(
     let mut members = Map::new(alloc);
     put_number(alloc, &mut members, "requests", requests)?;
     put_text(alloc, &mut members, "digest", digest.as_str())?;
-    put_time_if(alloc, &mut members, time)?;
+    put_time_if(alloc, &mut members, "time", time)?;
     found_response(alloc, members)
 }

@@ -29,6 +29,7 @@ fn of_resources(alloc: Global, kind: &str, text: &str) -> Result<Vec<u8>, RowFau
         "no-org" => resources::no_org(alloc),
         "petition" => resources::petition(alloc, text),
         "declined" => resources::declined(alloc, text),
+        "dated" => resources::dated(alloc, text),
         "no-petition" => resources::no_petition(alloc, text),
         _ => {
             let bytes = bytes_of(alloc, text)?;

@@ -4,7 +4,7 @@ use crate::responses::response_text;
 use registry_http::{
     founding_response, head_response, number_response, org_response, petition_response,
 };
-use registry_rules::{Entry, Founding, Org, Petition, Terms, Vendor};
+use registry_rules::{Entry, Founding, Org, Petition, PetitionTimes, Terms, Vendor};
 use row_records::{field, founding_of, maybe_vid, pid, slug, vid};
 use row_texts::{RowFault, bytes_of, cut, number_of};
 use std::alloc::Global;
@@ -73,20 +73,29 @@ pub(crate) fn no_org(alloc: Global) -> Result<Vec<u8>, RowFault> {
     org_text(alloc, None)
 }
 
+// The times of a petition that has none.
+fn untimed() -> PetitionTimes {
+    PetitionTimes {
+        opened: None,
+        closed: None,
+    }
+}
+
 fn petition_text(
     alloc: Global,
     id: u32,
     petition: Option<&Petition>,
     reason: Option<&Title>,
+    times: &PetitionTimes,
 ) -> Result<Vec<u8>, RowFault> {
-    let response = petition_response(alloc, vid("1209")?, id, petition, reason)?;
+    let response = petition_response(alloc, vid("1209")?, id, petition, reason, times)?;
     response_text(alloc, &response)
 }
 
 /// Shows the response to a query for a petition to a registry of vendor 1209.
 pub(crate) fn petition(alloc: Global, text: &str) -> Result<Vec<u8>, RowFault> {
     let (id, petition) = row_records::petition(alloc, text)?;
-    petition_text(alloc, id, Some(&petition), None)
+    petition_text(alloc, id, Some(&petition), None, &untimed())
 }
 
 /// Shows the same for a petition that was declined for a reason, which comes first.
@@ -94,12 +103,25 @@ pub(crate) fn declined(alloc: Global, text: &str) -> Result<Vec<u8>, RowFault> {
     let (reason, rest) = cut(text)?;
     let reason = row_records::title(alloc, reason)?;
     let (id, petition) = row_records::petition(alloc, rest)?;
-    petition_text(alloc, id, Some(&petition), Some(&reason))
+    petition_text(alloc, id, Some(&petition), Some(&reason), &untimed())
+}
+
+/// Shows the same for a petition with the times at which it was opened and closed, which come first,
+/// or a hyphen in place of one.
+pub(crate) fn dated(alloc: Global, text: &str) -> Result<Vec<u8>, RowFault> {
+    let (opened, rest) = cut(text)?;
+    let (closed, rest) = cut(rest)?;
+    let times = PetitionTimes {
+        opened: time_if(alloc, opened)?,
+        closed: time_if(alloc, closed)?,
+    };
+    let (id, petition) = row_records::petition(alloc, rest)?;
+    petition_text(alloc, id, Some(&petition), None, &times)
 }
 
 /// Shows the response to a query for a petition that is not there.
 pub(crate) fn no_petition(alloc: Global, text: &str) -> Result<Vec<u8>, RowFault> {
-    petition_text(alloc, number_of(text)?, None, None)
+    petition_text(alloc, number_of(text)?, None, None, &untimed())
 }
 
 fn time_if(alloc: Global, text: &str) -> Result<Option<Time>, RowFault> {

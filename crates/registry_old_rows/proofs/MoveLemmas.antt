@@ -23,13 +23,13 @@ use Rattle.table_laws.proofs.DeleteLemmas.{deletes_stored}
 use Rattle.table_laws.proofs.UnnumberedLemmas.{kept_all}
 use Rattle.table_laws.proofs.WriteLemmas.{inserts, deletes}
 use Rattle.table_laws.proofs.CopyLemmas.{appends, fills}
-use Rattle.registry_schema.specs.Schema.{schema_4, entries, petitions, spans, spans3, entries3, petitions3}
+use Rattle.registry_schema.specs.Schema.{schema_5, entries, petitions, spans, spans3, entries3, petitions3}
 use Rattle.registry_rows.specs.Rows.{whole, span_row, IsVendorSpan, entry_row, IsEntry, petition_key, petition_row, IsPetition}
 use Rattle.registry_rows.specs.Tables.{Tables}
 use Rattle.registry_rows.proofs.KeyLemmas.{cast_span, cast_entry, cast_petition}
 use Rattle.registry_old_rows.specs.Old.{old_span_key, old_span_row, old_entry_key, old_entry_row, old_petition_row, IsSpanOf, IsEntryOf, IsPetitionOf}
 use Rattle.registry_old_rows.specs.Between.{HoldsBoth}
-use Rattle.registry_old_rows.proofs.AgreeLemmas.{untied_4}
+use Rattle.registry_old_rows.proofs.AgreeLemmas.{untied_5}
 use Rattle.registry_old_rows.proofs.HoldLemmas.{holds_new_spans, holds_new_entries, holds_new_petitions, holds_old_spans, holds_old_entries, holds_old_petitions}
 use Rattle.registry_old_rows.proofs.OldTexts.{copy_spans_text, copy_spans_query, copy_spans_is, copy_entries_text, copy_entries_query, copy_entries_is, copy_petitions_text, copy_petitions_query, copy_petitions_is, empty_spans_text, empty_spans_is, empty_entries_text, empty_entries_is, empty_petitions_text, empty_petitions_is}
 
@@ -75,8 +75,8 @@ pub copies_spans : (vid : ℕ) (old new : State) (count : ℕ) → Executes copy
     → HoldsBoth vid new.now o (record t { spans = t.spans ++ o.spans })
 copies_spans vid old new count h o t has =
     let params : Row = whole vid ∷ [] in
-    let w = runs_as copy_spans_text params old new schema_4 has.schema _ copy_spans_is.is copy_spans_is.plain count h in
-    let done = inserts schema_4 untied_4 11 15 spans3.name spans3.columns None (1 ∷ 2 ∷ []) ((1 ∷ 2 ∷ []) ∷ []) refl old new has.schema _ params count (record { lets = []; body = copy_spans_query }) w in
+    let w = runs_as copy_spans_text params old new schema_5 has.schema _ copy_spans_is.is copy_spans_is.plain count h in
+    let done = inserts schema_5 untied_5 11 15 spans3.name spans3.columns None (1 ∷ 2 ∷ []) ((1 ∷ 2 ∷ []) ∷ []) refl old new has.schema _ params count (record { lets = []; body = copy_spans_query }) w in
     let source = has.rows.second.spans in
     let bare = λ (s : ℕ × Span). Null ∷ span_row s in
     let shown : done.0 ≡ map bare o.spans =
@@ -93,8 +93,8 @@ pub copies_entries : (vid : ℕ) (old new : State) (count : ℕ) → Executes co
     → HoldsBoth vid new.now o (record t { entries = t.entries ++ o.entries })
 copies_entries vid old new count h o t has =
     let params : Row = whole vid ∷ [] in
-    let w = runs_as copy_entries_text params old new schema_4 has.schema _ copy_entries_is.is copy_entries_is.plain count h in
-    let done = inserts schema_4 untied_4 12 17 entries3.name entries3.columns None (1 ∷ 2 ∷ []) ((1 ∷ 2 ∷ []) ∷ []) refl old new has.schema _ params count (record { lets = []; body = copy_entries_query }) w in
+    let w = runs_as copy_entries_text params old new schema_5 has.schema _ copy_entries_is.is copy_entries_is.plain count h in
+    let done = inserts schema_5 untied_5 12 17 entries3.name entries3.columns None (1 ∷ 2 ∷ []) ((1 ∷ 2 ∷ []) ∷ []) refl old new has.schema _ params count (record { lets = []; body = copy_entries_query }) w in
     let source = has.rows.second.first.entries in
     let bare = λ (e : Number × Entry). Null ∷ entry_row e in
     let shown : done.0 ≡ map bare o.entries =
@@ -111,8 +111,8 @@ pub copies_petitions : (vid : ℕ) (old new : State) (count : ℕ) → Executes 
     → HoldsBoth vid new.now o (record t { petitions = o.petitions })
 copies_petitions vid old new count h o t has empty =
     let params : Row = whole vid ∷ [] in
-    let w = runs_as copy_petitions_text params old new schema_4 has.schema _ copy_petitions_is.is copy_petitions_is.plain count h in
-    let done = inserts schema_4 untied_4 13 19 petitions3.name petitions3.columns (Some 0) (0 ∷ []) [] refl old new has.schema _ params count (record { lets = []; body = copy_petitions_query }) w in
+    let w = runs_as copy_petitions_text params old new schema_5 has.schema _ copy_petitions_is.is copy_petitions_is.plain count h in
+    let done = inserts schema_5 untied_5 13 19 petitions3.name petitions3.columns (Some 0) (0 ∷ []) [] refl old new has.schema _ params count (record { lets = []; body = copy_petitions_query }) w in
     let source = has.rows.second.first.petitions in
     let shown : done.0 ≡ map petition_row o.petitions =
     shows_rows (IsPetitionOf vid) petition_key old_petition_row (overlay old.now.trees []) 8 o.petitions source copy_petitions_query params (λ _. true) (petition_with vid) (λ x. refl) (λ x. refl)
@@ -133,21 +133,21 @@ copies_petitions vid old new count h o t has empty =
 
 pub empties_spans : (vid : ℕ) (old new : State) (count : ℕ) → Executes empty_spans_text [] old new (Ok count) → (o t : Tables) → HoldsBoth vid old.now o t → HoldsBoth vid new.now (record o { spans = [] }) t
 empties_spans vid old new count h o t has =
-    let w = runs_as empty_spans_text [] old new schema_4 has.schema _ empty_spans_is.is empty_spans_is.plain count h in
-    let done = deletes schema_4 untied_4 9 13 spans.name spans.columns (Some 0) (0 ∷ []) [] refl old new has.schema _ [] count _ w in
+    let w = runs_as empty_spans_text [] old new schema_5 has.schema _ empty_spans_is.is empty_spans_is.plain count h in
+    let done = deletes schema_5 untied_5 9 13 spans.name spans.columns (Some 0) (0 ∷ []) [] refl old new has.schema _ [] count _ w in
     let left = deletes_stored (IsSpanOf vid) old_span_key old_span_row (λ _. refl) (overlay old.now.trees []) 13 o.spans has.rows.second.spans [] [] (λ _. true) (λ _. refl) done.0 (done.1.answer Null) in
     holds_old_spans vid old.now new.now o t _ [] has done.2 (subst (Stores (IsSpanOf vid) old_span_key old_span_row _) (none_left o.spans) left)
 
 pub empties_entries : (vid : ℕ) (old new : State) (count : ℕ) → Executes empty_entries_text [] old new (Ok count) → (o t : Tables) → HoldsBoth vid old.now o t → HoldsBoth vid new.now (record o { entries = [] }) t
 empties_entries vid old new count h o t has =
-    let w = runs_as empty_entries_text [] old new schema_4 has.schema _ empty_entries_is.is empty_entries_is.plain count h in
-    let done = deletes schema_4 untied_4 6 9 entries.name entries.columns (Some 0) (0 ∷ []) [] refl old new has.schema _ [] count _ w in
+    let w = runs_as empty_entries_text [] old new schema_5 has.schema _ empty_entries_is.is empty_entries_is.plain count h in
+    let done = deletes schema_5 untied_5 6 9 entries.name entries.columns (Some 0) (0 ∷ []) [] refl old new has.schema _ [] count _ w in
     let left = deletes_stored (IsEntryOf vid) old_entry_key old_entry_row (λ _. refl) (overlay old.now.trees []) 9 o.entries has.rows.second.first.entries [] [] (λ _. true) (λ _. refl) done.0 (done.1.answer Null) in
     holds_old_entries vid old.now new.now o t _ [] has done.2 (subst (Stores (IsEntryOf vid) old_entry_key old_entry_row _) (none_left o.entries) left)
 
 pub empties_petitions : (vid : ℕ) (old new : State) (count : ℕ) → Executes empty_petitions_text [] old new (Ok count) → (o t : Tables) → HoldsBoth vid old.now o t → HoldsBoth vid new.now (record o { petitions = [] }) t
 empties_petitions vid old new count h o t has =
-    let w = runs_as empty_petitions_text [] old new schema_4 has.schema _ empty_petitions_is.is empty_petitions_is.plain count h in
-    let done = deletes schema_4 untied_4 5 8 petitions.name petitions.columns (Some 0) (0 ∷ []) [] refl old new has.schema _ [] count _ w in
+    let w = runs_as empty_petitions_text [] old new schema_5 has.schema _ empty_petitions_is.is empty_petitions_is.plain count h in
+    let done = deletes schema_5 untied_5 5 8 petitions.name petitions.columns (Some 0) (0 ∷ []) [] refl old new has.schema _ [] count _ w in
     let left = deletes_stored (IsPetitionOf vid) petition_key old_petition_row (λ _. refl) (overlay old.now.trees []) 8 o.petitions has.rows.second.first.petitions [] [] (λ _. true) (λ _. refl) done.0 (done.1.answer Null) in
     holds_old_petitions vid old.now new.now o t _ [] has done.2 (subst (Stores (IsPetitionOf vid) petition_key old_petition_row _) (none_left o.petitions) left)

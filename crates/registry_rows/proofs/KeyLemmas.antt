@@ -24,11 +24,11 @@ use Rattle.registry_rules.specs.declared.record.Entry.{Entry}
 use Rattle.registry_rules.specs.declared.record.Petition.{Petition}
 use Rattle.registry_rules.specs.declared.record.Vendor.{Vendor}
 use Rattle.table_laws.proofs.NumberedLemmas.{equal_ints}
-use Rattle.registry_schema.specs.Schema.{schema_4, meta, curators, licences, fixed, orgs, kept, vendors, spans3, entries3, petitions3, digests4, reasons4}
+use Rattle.registry_schema.specs.Schema.{schema_5, meta, curators, licences, fixed, orgs, kept, vendors, spans3, entries3, petitions3, digests4, reasons4, opened5, closed5}
 use Rattle.registry_rows.specs.declared.digests.DigestRow.{DigestRow}
 use Rattle.registry_rows.specs.declared.kept.KeptRow.{KeptRow}
 use Rattle.registry_rows.specs.declared.meta.Meta.{Meta}
-use Rattle.registry_rows.specs.Rows.{whole, part, meta_row, name_row, fixed_row, org_row, kept_row, vendor_row, span_row, begins_at, entry_row, petition_row, digest_row, reason_row, is_named, is_called, is_kept_under, is_of}
+use Rattle.registry_rows.specs.Rows.{whole, part, meta_row, name_row, fixed_row, org_row, kept_row, vendor_row, span_row, begins_at, entry_row, petition_row, digest_row, reason_row, time_row, is_named, is_called, is_kept_under, is_of}
 use Rattle.registry_rows.proofs.NumberLemmas.{same_numbers, same_texts}
 
 either : (b : Bool) (x : Value) → cond b x x ≡ x
@@ -72,6 +72,12 @@ cast_digest d = simp (cast_int, cast_null, cast_time)
 
 pub cast_reason : (r : ℕ × List ℕ) → cast_row reasons4 (reason_row r) ≡ reason_row r
 cast_reason r = simp (cast_int, cast_null)
+
+pub cast_opened : (r : ℕ × List ℕ) → cast_row opened5 (time_row r) ≡ time_row r
+cast_opened r = simp (cast_int, cast_null)
+
+pub cast_closed : (r : ℕ × List ℕ) → cast_row closed5 (time_row r) ≡ time_row r
+cast_closed r = simp (cast_int, cast_null)
 
 pub cast_curator : (name : List ℕ) → cast_row curators (Null ∷ name_row name) ≡ Null ∷ name_row name
 cast_curator name = simp cast_null
@@ -130,26 +136,26 @@ no_more_of_two true true = refl
 no_more_of_two true false = refl
 no_more_of_two false b = refl
 
-pub curators_shared : (new old : ℤ × List ℕ) → list_any (shares None curators (Int new.0 ∷ name_row new.1) (Int old.0 ∷ name_row old.1)) schema_4.indexes ≡ is_named old.1 new.1
+pub curators_shared : (new old : ℤ × List ℕ) → list_any (shares None curators (Int new.0 ∷ name_row new.1) (Int old.0 ∷ name_row old.1)) schema_5.indexes ≡ is_named old.1 new.1
 curators_shared new old = no_more (equal (first_key plain).collation (Text old.1) (Text new.1)) ∙ equal_texts old.1 new.1
 
-pub licences_shared : (new old : ℤ × List ℕ) → list_any (shares None licences (Int new.0 ∷ name_row new.1) (Int old.0 ∷ name_row old.1)) schema_4.indexes ≡ is_named old.1 new.1
+pub licences_shared : (new old : ℤ × List ℕ) → list_any (shares None licences (Int new.0 ∷ name_row new.1) (Int old.0 ∷ name_row old.1)) schema_5.indexes ≡ is_named old.1 new.1
 licences_shared new old = no_more (equal (first_key plain).collation (Text old.1) (Text new.1)) ∙ equal_texts old.1 new.1
 
-pub orgs_shared : (new old : ℤ × Org) → list_any (shares None orgs (Int new.0 ∷ org_row new.1) (Int old.0 ∷ org_row old.1)) schema_4.indexes ≡ is_called new.1.slug old.1
+pub orgs_shared : (new old : ℤ × Org) → list_any (shares None orgs (Int new.0 ∷ org_row new.1) (Int old.0 ∷ org_row old.1)) schema_5.indexes ≡ is_called new.1.slug old.1
 orgs_shared new old = no_more (equal (first_key plain).collation (Text old.1.slug) (Text new.1.slug)) ∙ equal_texts old.1.slug new.1.slug
 
-pub kept_shared : (new old : ℤ × KeptRow) → list_any (shares None kept (Int new.0 ∷ kept_row new.1) (Int old.0 ∷ kept_row old.1)) schema_4.indexes ≡ is_kept_under new.1.caller new.1.key old.1
+pub kept_shared : (new old : ℤ × KeptRow) → list_any (shares None kept (Int new.0 ∷ kept_row new.1) (Int old.0 ∷ kept_row old.1)) schema_5.indexes ≡ is_kept_under new.1.caller new.1.key old.1
 kept_shared new old =
     no_more_of_two (equal (first_key plain).collation (Text old.1.caller) (Text new.1.caller)) (equal (first_key plain).collation (Text old.1.key) (Text new.1.key))
     ∙ ap₂ ◌&&◌ (equal_texts old.1.caller new.1.caller) (equal_texts old.1.key new.1.key)
 
-pub spans_shared : (new old : ℤ × (ℕ × Span)) → list_any (shares None spans3 (Int new.0 ∷ span_row new.1) (Int old.0 ∷ span_row old.1)) schema_4.indexes ≡ begins_at new.1.0 new.1.1.first old.1
+pub spans_shared : (new old : ℤ × (ℕ × Span)) → list_any (shares None spans3 (Int new.0 ∷ span_row new.1) (Int old.0 ∷ span_row old.1)) schema_5.indexes ≡ begins_at new.1.0 new.1.1.first old.1
 spans_shared new old =
     no_more_of_two (equal (first_key plain).collation (whole old.1.0) (whole new.1.0)) (equal (first_key plain).collation (whole old.1.1.first) (whole new.1.1.first))
     ∙ ap₂ ◌&&◌ (equal_ints (pos old.1.0) (pos new.1.0) ∙ same_numbers old.1.0 new.1.0) (equal_ints (pos old.1.1.first) (pos new.1.1.first) ∙ same_numbers old.1.1.first new.1.1.first)
 
-pub entries_shared : (new old : ℤ × (Number × Entry)) → list_any (shares None entries3 (Int new.0 ∷ entry_row new.1) (Int old.0 ∷ entry_row old.1)) schema_4.indexes ≡ is_of new.1.0 old.1
+pub entries_shared : (new old : ℤ × (Number × Entry)) → list_any (shares None entries3 (Int new.0 ∷ entry_row new.1) (Int old.0 ∷ entry_row old.1)) schema_5.indexes ≡ is_of new.1.0 old.1
 entries_shared new old =
     no_more_of_two (equal (first_key plain).collation (whole old.1.0.vid) (whole new.1.0.vid)) (equal (first_key plain).collation (whole old.1.0.pid) (whole new.1.0.pid))
     ∙ ap₂ ◌&&◌ (equal_numbers old.1.0.vid new.1.0.vid) (equal_numbers old.1.0.pid new.1.0.pid)

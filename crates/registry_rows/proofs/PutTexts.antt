@@ -5,7 +5,7 @@ use Rattle.sqlite.specs.Term.{Term, lit, col}
 use Rattle.sqlite.specs.Listing.{understood}
 use Rattle.sqlite_tied.specs.Compute.{everything}
 use Rattle.table_laws.proofs.StatementLemmas.{IsPut}
-use Rattle.registry_schema.specs.Schema.{schema_4}
+use Rattle.registry_schema.specs.Schema.{schema_5}
 
 abbrev pub put_meta_text : List ℕ
 put_meta_text = codes "INSERT OR REPLACE INTO meta (id, version, vendor, name) VALUES (1, ?1, ?2, ?3)"
@@ -13,7 +13,7 @@ put_meta_text = codes "INSERT OR REPLACE INTO meta (id, version, vendor, name) V
 abbrev pub put_meta_terms : List Term
 put_meta_terms = lit (Int (pos 1)) ∷ lit Null ∷ col 0 0 ∷ col 0 1 ∷ col 0 2 ∷ []
 
-pub put_meta_is : IsPut schema_4 0 put_meta_text put_meta_terms 5
+pub put_meta_is : IsPut schema_5 0 put_meta_text put_meta_terms 5
 unfolding understood everything
 put_meta_is = record { is = refl; plain = (refl, refl) }
 
@@ -23,7 +23,7 @@ put_curator_text = codes "INSERT OR REPLACE INTO curators (name) VALUES (?1)"
 abbrev pub put_curator_terms : List Term
 put_curator_terms = lit Null ∷ col 0 0 ∷ []
 
-pub put_curator_is : IsPut schema_4 1 put_curator_text put_curator_terms 2
+pub put_curator_is : IsPut schema_5 1 put_curator_text put_curator_terms 2
 unfolding understood everything
 put_curator_is = record { is = refl; plain = (refl, refl) }
 
@@ -33,7 +33,7 @@ put_licence_text = codes "INSERT OR REPLACE INTO licences (name) VALUES (?1)"
 abbrev pub put_licence_terms : List Term
 put_licence_terms = lit Null ∷ col 0 0 ∷ []
 
-pub put_licence_is : IsPut schema_4 2 put_licence_text put_licence_terms 2
+pub put_licence_is : IsPut schema_5 2 put_licence_text put_licence_terms 2
 unfolding understood everything
 put_licence_is = record { is = refl; plain = (refl, refl) }
 
@@ -43,7 +43,7 @@ put_fixed_text = codes "INSERT OR REPLACE INTO fixed (lo, hi) VALUES (?1, ?2)"
 abbrev pub put_fixed_terms : List Term
 put_fixed_terms = col 0 0 ∷ lit Null ∷ col 0 1 ∷ []
 
-pub put_fixed_is : IsPut schema_4 3 put_fixed_text put_fixed_terms 3
+pub put_fixed_is : IsPut schema_5 3 put_fixed_text put_fixed_terms 3
 unfolding understood everything
 put_fixed_is = record { is = refl; plain = (refl, refl) }
 
@@ -53,7 +53,7 @@ put_org_text = codes "INSERT OR REPLACE INTO orgs (slug, title, site, keeper) VA
 abbrev pub put_org_terms : List Term
 put_org_terms = lit Null ∷ col 0 0 ∷ col 0 1 ∷ col 0 2 ∷ col 0 3 ∷ []
 
-pub put_org_is : IsPut schema_4 4 put_org_text put_org_terms 5
+pub put_org_is : IsPut schema_5 4 put_org_text put_org_terms 5
 unfolding understood everything
 put_org_is = record { is = refl; plain = (refl, refl) }
 
@@ -63,7 +63,7 @@ put_kept_text = codes "INSERT OR REPLACE INTO kept (caller, request_key, request
 abbrev pub put_kept_terms : List Term
 put_kept_terms = lit Null ∷ col 0 0 ∷ col 0 1 ∷ col 0 2 ∷ col 0 3 ∷ []
 
-pub put_kept_is : IsPut schema_4 8 put_kept_text put_kept_terms 5
+pub put_kept_is : IsPut schema_5 8 put_kept_text put_kept_terms 5
 unfolding understood everything
 put_kept_is = record { is = refl; plain = (refl, refl) }
 
@@ -73,7 +73,7 @@ put_vendor_text = codes "INSERT OR REPLACE INTO vendors (vid, name) VALUES (?1, 
 abbrev pub put_vendor_terms : List Term
 put_vendor_terms = col 0 0 ∷ lit Null ∷ col 0 1 ∷ []
 
-pub put_vendor_is : IsPut schema_4 10 put_vendor_text put_vendor_terms 3
+pub put_vendor_is : IsPut schema_5 10 put_vendor_text put_vendor_terms 3
 unfolding understood everything
 put_vendor_is = record { is = refl; plain = (refl, refl) }
 
@@ -83,7 +83,7 @@ put_entry_text = codes "INSERT OR REPLACE INTO entries3 (vid, pid, org, held, ti
 abbrev pub put_entry_terms : List Term
 put_entry_terms = lit Null ∷ col 0 0 ∷ col 0 1 ∷ col 0 2 ∷ col 0 3 ∷ col 0 4 ∷ col 0 5 ∷ col 0 6 ∷ col 0 7 ∷ []
 
-pub put_entry_is : IsPut schema_4 12 put_entry_text put_entry_terms 9
+pub put_entry_is : IsPut schema_5 12 put_entry_text put_entry_terms 9
 unfolding understood everything
 put_entry_is = record { is = refl; plain = (refl, refl) }
 
@@ -93,7 +93,7 @@ put_petition_text = codes "INSERT OR REPLACE INTO petitions3 (id, vid, org, want
 abbrev pub put_petition_terms : List Term
 put_petition_terms = col 0 0 ∷ lit Null ∷ col 0 1 ∷ col 0 2 ∷ col 0 3 ∷ col 0 4 ∷ col 0 5 ∷ col 0 6 ∷ col 0 7 ∷ col 0 8 ∷ col 0 9 ∷ []
 
-pub put_petition_is : IsPut schema_4 13 put_petition_text put_petition_terms 11
+pub put_petition_is : IsPut schema_5 13 put_petition_text put_petition_terms 11
 unfolding understood everything
 put_petition_is = record { is = refl; plain = (refl, refl) }
 
@@ -103,7 +103,7 @@ put_digest_text = codes "INSERT OR REPLACE INTO digests4 (id, time, digest) VALU
 abbrev pub put_digest_terms : List Term
 put_digest_terms = col 0 0 ∷ lit Null ∷ col 0 1 ∷ col 0 2 ∷ []
 
-pub put_digest_is : IsPut schema_4 14 put_digest_text put_digest_terms 4
+pub put_digest_is : IsPut schema_5 14 put_digest_text put_digest_terms 4
 unfolding understood everything
 put_digest_is = record { is = refl; plain = (refl, refl) }
 
@@ -113,6 +113,26 @@ put_reason_text = codes "INSERT OR REPLACE INTO reasons4 (petition, reason) VALU
 abbrev pub put_reason_terms : List Term
 put_reason_terms = col 0 0 ∷ lit Null ∷ col 0 1 ∷ []
 
-pub put_reason_is : IsPut schema_4 15 put_reason_text put_reason_terms 3
+pub put_reason_is : IsPut schema_5 15 put_reason_text put_reason_terms 3
 unfolding understood everything
 put_reason_is = record { is = refl; plain = (refl, refl) }
+
+abbrev pub put_opened_text : List ℕ
+put_opened_text = codes "INSERT OR REPLACE INTO opened5 (petition, time) VALUES (?1, ?2)"
+
+abbrev pub put_opened_terms : List Term
+put_opened_terms = col 0 0 ∷ lit Null ∷ col 0 1 ∷ []
+
+pub put_opened_is : IsPut schema_5 16 put_opened_text put_opened_terms 3
+unfolding understood everything
+put_opened_is = record { is = refl; plain = (refl, refl) }
+
+abbrev pub put_closed_text : List ℕ
+put_closed_text = codes "INSERT OR REPLACE INTO closed5 (petition, time) VALUES (?1, ?2)"
+
+abbrev pub put_closed_terms : List Term
+put_closed_terms = col 0 0 ∷ lit Null ∷ col 0 1 ∷ []
+
+pub put_closed_is : IsPut schema_5 17 put_closed_text put_closed_terms 3
+unfolding understood everything
+put_closed_is = record { is = refl; plain = (refl, refl) }

@@ -7,7 +7,7 @@ use Rattle.sqlite_sql.specs.declared.ops.CompareOp.TheVariants.{Eq}
 use Rattle.sqlite_tied.specs.Compute.{everything}
 use Rattle.sqlite_value.specs.declared.keys.Collation.TheVariants.{Binary}
 use Rattle.table_laws.proofs.StatementLemmas.{IsUpdate}
-use Rattle.registry_schema.specs.Schema.{schema_4}
+use Rattle.registry_schema.specs.Schema.{schema_5}
 
 abbrev pub set_held_text : List ℕ
 set_held_text = codes "UPDATE entries3 SET held = ?1 WHERE vid = ?2 AND pid = ?3"
@@ -18,7 +18,7 @@ set_held_terms = op2 (Compare Eq Binary) (col 1 1) (col 0 1) ∷ op2 (Compare Eq
 abbrev pub set_held_news : List Term
 set_held_news = col 1 0 ∷ col 1 1 ∷ col 1 2 ∷ col 1 3 ∷ col 0 0 ∷ col 1 5 ∷ col 1 6 ∷ col 1 7 ∷ col 1 8 ∷ []
 
-pub set_held_is : IsUpdate schema_4 12 17 set_held_text set_held_terms set_held_news
+pub set_held_is : IsUpdate schema_5 12 17 set_held_text set_held_terms set_held_news
 unfolding understood everything
 set_held_is = record { is = refl; plain = (refl, refl) }
 
@@ -31,6 +31,6 @@ set_card_terms = op2 (Compare Eq Binary) (col 1 1) (col 0 4) ∷ op2 (Compare Eq
 abbrev pub set_card_news : List Term
 set_card_news = col 1 0 ∷ col 1 1 ∷ col 1 2 ∷ col 1 3 ∷ col 1 4 ∷ col 0 0 ∷ col 0 1 ∷ col 0 2 ∷ col 0 3 ∷ []
 
-pub set_card_is : IsUpdate schema_4 12 17 set_card_text set_card_terms set_card_news
+pub set_card_is : IsUpdate schema_5 12 17 set_card_text set_card_terms set_card_news
 unfolding understood everything
 set_card_is = record { is = refl; plain = (refl, refl) }

@@ -12,13 +12,13 @@ use Rattle.registry_rules.specs.declared.record.Petition.{Petition}
 use Rattle.registry_rules.specs.declared.record.Vendor.{Vendor}
 use Rattle.table_laws.specs.Making.{HasTables}
 use Rattle.table_laws.specs.Stored.{Stores, StoresWithRowids, StoresUnnumbered}
-use Rattle.registry_schema.specs.Texts.{texts_4}
-use Rattle.registry_schema.specs.Schema.{schema_4}
-use Rattle.registry_schema.specs.Trees.{meta_tree, curators_tree, licences_tree, fixed_tree, orgs_tree, petitions_tree, entries_tree, reserved_tree, kept_tree, spans_tree, vendors_tree, spans3_tree, entries3_tree, petitions3_tree, digests4_tree, reasons4_tree}
+use Rattle.registry_schema.specs.Texts.{texts_5}
+use Rattle.registry_schema.specs.Schema.{schema_5}
+use Rattle.registry_schema.specs.Trees.{meta_tree, curators_tree, licences_tree, fixed_tree, orgs_tree, petitions_tree, entries_tree, reserved_tree, kept_tree, spans_tree, vendors_tree, spans3_tree, entries3_tree, petitions3_tree, digests4_tree, reasons4_tree, opened5_tree, closed5_tree}
 use Rattle.registry_rows.specs.declared.digests.DigestRow.{DigestRow}
 use Rattle.registry_rows.specs.declared.kept.KeptRow.{KeptRow}
 use Rattle.registry_rows.specs.declared.meta.Meta.{Meta}
-use Rattle.registry_rows.specs.Rows.{meta_key, meta_row, IsMeta, name_row, fixed_key, fixed_row, IsSpan, org_row, IsOrg, kept_row, IsKept, is_after, vendor_key, vendor_row, IsVendor, span_row, IsVendorSpan, entry_row, IsEntry, petition_key, petition_row, IsPetition, digest_key, digest_row, IsDigestRow, reason_key, reason_row, IsReason}
+use Rattle.registry_rows.specs.Rows.{meta_key, meta_row, IsMeta, name_row, fixed_key, fixed_row, IsSpan, org_row, IsOrg, kept_row, IsKept, is_after, vendor_key, vendor_row, IsVendor, span_row, IsVendorSpan, entry_row, IsEntry, petition_key, petition_row, IsPetition, digest_key, digest_row, IsDigestRow, reason_key, reason_row, IsReason, time_key, time_row, IsTimeRow}
 
 -- The values of the tables: in the order of their keys if the key is the rowid, otherwise in the order of insertion. The
 -- kept replies have the rowids of their rows beside them.
@@ -35,6 +35,8 @@ pub record Tables : Type 0 where
   pub petitions : List (ℕ × Petition)
   pub digests : List (ℕ × DigestRow)
   pub reasons : List (ℕ × List ℕ)
+  pub opened : List (ℕ × List ℕ)
+  pub closed : List (ℕ × List ℕ)
 
 -- the kept replies without the rowids
 abbrev pub replies : Tables → List KeptRow
@@ -62,18 +64,20 @@ pub record AreRows (db : Trees) (t : Tables) : Type 0 where
   pub petitions : Stores IsPetition petition_key petition_row (db petitions3_tree) t.petitions
   pub digests : Stores IsDigestRow digest_key digest_row (db digests4_tree) t.digests
   pub reasons : Stores IsReason reason_key reason_row (db reasons4_tree) t.reasons
+  pub opened : Stores IsTimeRow time_key time_row (db opened5_tree) t.opened
+  pub closed : Stores IsTimeRow time_key time_row (db closed5_tree) t.closed
 
--- the trees have exactly the tables of the fourth schema, with these rows
+-- the trees have exactly the tables of the fifth schema, with these rows
 pub record HasRows (db : Trees) (t : Tables) : Type 0 where
-  pub has : HasTables texts_4 db
+  pub has : HasTables texts_5 db
   pub rows : AreRows db t
 
 -- the same for a database whose schema is known
 pub record Holds (db : Database) (t : Tables) : Type 0 where
-  pub schema : db.schema ≡ schema_4
-  pub sound : IsSound schema_4 db.trees
+  pub schema : db.schema ≡ schema_5
+  pub sound : IsSound schema_5 db.trees
   pub rows : AreRows db.trees t
 
 -- no rows in any table
 abbrev pub no_rows : Tables
-no_rows = record { metas = []; curators = []; licences = []; fixed = []; orgs = []; kept = []; vendors = []; spans = []; entries = []; petitions = []; digests = []; reasons = [] }
+no_rows = record { metas = []; curators = []; licences = []; fixed = []; orgs = []; kept = []; vendors = []; spans = []; entries = []; petitions = []; digests = []; reasons = []; opened = []; closed = [] }

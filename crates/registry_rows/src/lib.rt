@@ -15,6 +15,7 @@ pub use petitions::{
 };
 pub use reasons::{find_reason, put_reason};
 pub use spans::{cut_spans, find_spans, list_spans, put_span};
+pub use times::{find_closed, find_opened, put_closed, put_opened};
 pub use vendors::{list_vendors, put_vendor};
 
 mod columns;
@@ -29,4 +30,5 @@ mod orgs;
 mod petitions;
 mod reasons;
 mod spans;
+mod times;
 mod vendors;

@@ -4,8 +4,8 @@ use Rattle.sqlite.specs.Listing.{understood}
 use Rattle.sqlite_tied.specs.Compute.{everything}
 use Rattle.table_laws.specs.Making.{no_schema, schema_by}
 use Rattle.table_laws.proofs.MakeLemmas.{Makes}
-use Rattle.registry_schema.specs.Texts.{meta_text, curators_text, licences_text, fixed_text, orgs_text, petitions_text, entries_text, reserved_text, kept_text, spans_text, vendors_text, spans3_text, entries3_text, petitions3_text, digests4_text, reasons4_text, texts_1, texts_2, texts_3, texts_4}
-use Rattle.registry_schema.specs.Schema.{meta, curators, licences, fixed, orgs, petitions, entries, reserved, kept, spans, vendors, spans3, entries3, petitions3, digests4, reasons4, past_meta, past_curators, past_licences, past_fixed, past_orgs, past_petitions, past_entries, past_reserved, schema_1, schema_2, past_vendors, past_spans3, past_entries3, schema_3, past_digests4, schema_4}
+use Rattle.registry_schema.specs.Texts.{meta_text, curators_text, licences_text, fixed_text, orgs_text, petitions_text, entries_text, reserved_text, kept_text, spans_text, vendors_text, spans3_text, entries3_text, petitions3_text, digests4_text, reasons4_text, opened5_text, closed5_text, texts_1, texts_2, texts_3, texts_4, texts_5}
+use Rattle.registry_schema.specs.Schema.{meta, curators, licences, fixed, orgs, petitions, entries, reserved, kept, spans, vendors, spans3, entries3, petitions3, digests4, reasons4, opened5, closed5, past_meta, past_curators, past_licences, past_fixed, past_orgs, past_petitions, past_entries, past_reserved, schema_1, schema_2, past_vendors, past_spans3, past_entries3, schema_3, past_digests4, schema_4, past_opened5, schema_5}
 
 pub makes_meta : Makes no_schema meta_text meta
 unfolding understood everything
@@ -71,6 +71,14 @@ pub makes_reasons4 : Makes past_digests4 reasons4_text reasons4
 unfolding understood everything
 makes_reasons4 = record { command = refl; whole = refl; plain = (refl, refl); defined = refl; uncounted = refl }
 
+pub makes_opened5 : Makes schema_4 opened5_text opened5
+unfolding understood everything
+makes_opened5 = record { command = refl; whole = refl; plain = (refl, refl); defined = refl; uncounted = refl }
+
+pub makes_closed5 : Makes past_opened5 closed5_text closed5
+unfolding understood everything
+makes_closed5 = record { command = refl; whole = refl; plain = (refl, refl); defined = refl; uncounted = refl }
+
 pub schema_1_is : schema_by texts_1 ≡ schema_1
 unfolding everything
 schema_1_is = refl
@@ -86,3 +94,7 @@ schema_3_is = refl
 pub schema_4_is : schema_by texts_4 ≡ schema_4
 unfolding everything
 schema_4_is = refl
+
+pub schema_5_is : schema_by texts_5 ≡ schema_5
+unfolding everything
+schema_5_is = refl

@@ -4,11 +4,11 @@ use Rattle.sqlite_schema.specs.declared.schema.Schema.{Schema}
 use Rattle.sqlite.specs.State.{State, IsLive}
 use Rattle.table_laws.specs.Making.{HasTables}
 use Rattle.table_laws.proofs.CatalogLemmas.{live_schema}
-use Rattle.registry_schema.specs.Texts.{texts_1, texts_2, texts_3, texts_4}
-use Rattle.registry_schema.specs.Schema.{schema_1, schema_2, schema_3, schema_4}
+use Rattle.registry_schema.specs.Texts.{texts_1, texts_2, texts_3, texts_4, texts_5}
+use Rattle.registry_schema.specs.Schema.{schema_1, schema_2, schema_3, schema_4, schema_5}
 use Rattle.registry_schema.specs.Meta.{has_meta_table}
 use Rattle.registry_schema.specs.Version.{version_named}
-use Rattle.registry_schema.proofs.TextLemmas.{schema_1_is, schema_2_is, schema_3_is, schema_4_is}
+use Rattle.registry_schema.proofs.TextLemmas.{schema_1_is, schema_2_is, schema_3_is, schema_4_is, schema_5_is}
 
 module _ (s : State) (live : IsLive s) (is_open : IsTrue s.is_open) where
   -- the tables determine the schema
@@ -24,6 +24,9 @@ module _ (s : State) (live : IsLive s) (is_open : IsTrue s.is_open) where
   pub has_schema_4 : HasTables texts_4 s.now.trees → s.now.schema ≡ schema_4
   has_schema_4 has = live_schema s _ live is_open has ∙ schema_4_is
 
+  pub has_schema_5 : HasTables texts_5 s.now.trees → s.now.schema ≡ schema_5
+  has_schema_5 has = live_schema s _ live is_open has ∙ schema_5_is
+
   -- and their names give its version
   pub named_1 : HasTables texts_1 s.now.trees → version_named s.now.schema.tables ≡ Some 1
   named_1 has = ap (λ (x : Schema). version_named x.tables) (has_schema_1 has)
@@ -37,6 +40,9 @@ module _ (s : State) (live : IsLive s) (is_open : IsTrue s.is_open) where
   pub named_4 : HasTables texts_4 s.now.trees → version_named s.now.schema.tables ≡ Some 4
   named_4 has = ap (λ (x : Schema). version_named x.tables) (has_schema_4 has)
 
+  pub named_5 : HasTables texts_5 s.now.trees → version_named s.now.schema.tables ≡ Some 5
+  named_5 has = ap (λ (x : Schema). version_named x.tables) (has_schema_5 has)
+
 pub meta_first : has_meta_table schema_1 ≡ true
 meta_first = refl
 
@@ -48,3 +54,6 @@ meta_third = refl
 
 pub meta_fourth : has_meta_table schema_4 ≡ true
 meta_fourth = refl
+
+pub meta_fifth : has_meta_table schema_5 ≡ true
+meta_fifth = refl

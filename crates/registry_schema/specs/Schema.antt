@@ -5,7 +5,7 @@ use Rattle.sqlite_schema.specs.declared.schema.Schema.{Schema}
 use Rattle.sqlite_catalog.specs.Change.{created}
 use Rattle.table_laws.specs.Shape.{numbered_table, keyed_table, number, number_or_null, text, text_or_null, blob}
 use Rattle.table_laws.specs.Making.{no_schema}
-use Rattle.registry_schema.specs.Trees.{meta_tree, curators_tree, licences_tree, fixed_tree, orgs_tree, petitions_tree, entries_tree, reserved_tree, kept_tree, spans_tree, vendors_tree, spans3_tree, entries3_tree, petitions3_tree, digests4_tree, reasons4_tree}
+use Rattle.registry_schema.specs.Trees.{meta_tree, curators_tree, licences_tree, fixed_tree, orgs_tree, petitions_tree, entries_tree, reserved_tree, kept_tree, spans_tree, vendors_tree, spans3_tree, entries3_tree, petitions3_tree, digests4_tree, reasons4_tree, opened5_tree, closed5_tree}
 
 abbrev pub meta : Table
 meta = numbered_table meta_tree (codes "meta") (number_or_null (codes "id") ∷ number (codes "version") ∷ number (codes "vendor") ∷ text (codes "name") ∷ [])
@@ -54,6 +54,12 @@ digests4 = numbered_table digests4_tree (codes "digests4") (number_or_null (code
 
 abbrev pub reasons4 : Table
 reasons4 = numbered_table reasons4_tree (codes "reasons4") (number_or_null (codes "petition") ∷ text (codes "reason") ∷ [])
+
+abbrev pub opened5 : Table
+opened5 = numbered_table opened5_tree (codes "opened5") (number_or_null (codes "petition") ∷ text (codes "time") ∷ [])
+
+abbrev pub closed5 : Table
+closed5 = numbered_table closed5_tree (codes "closed5") (number_or_null (codes "petition") ∷ text (codes "time") ∷ [])
 
 -- the schema up to this table
 abbrev pub past_meta : Schema
@@ -115,6 +121,14 @@ schema_3 = created past_entries3 petitions3
 abbrev pub past_digests4 : Schema
 past_digests4 = created schema_3 digests4
 
--- the fourth and newest
+-- the fourth
 abbrev pub schema_4 : Schema
 schema_4 = created past_digests4 reasons4
+
+-- the schema up to this table
+abbrev pub past_opened5 : Schema
+past_opened5 = created schema_4 opened5
+
+-- the fifth and newest
+abbrev pub schema_5 : Schema
+schema_5 = created past_opened5 closed5

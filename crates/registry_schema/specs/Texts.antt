@@ -66,6 +66,14 @@ digests4_text = codes "CREATE TABLE digests4 (id INTEGER PRIMARY KEY, time TEXT,
 abbrev pub reasons4_text : List ℕ
 reasons4_text = codes "CREATE TABLE reasons4 (petition INTEGER PRIMARY KEY, reason TEXT NOT NULL) STRICT"
 
+-- the time at which each petition was opened, if the request that opened it had one
+abbrev pub opened5_text : List ℕ
+opened5_text = codes "CREATE TABLE opened5 (petition INTEGER PRIMARY KEY, time TEXT NOT NULL) STRICT"
+
+-- the time at which each petition was granted, declined or withdrawn, if that request had one
+abbrev pub closed5_text : List ℕ
+closed5_text = codes "CREATE TABLE closed5 (petition INTEGER PRIMARY KEY, time TEXT NOT NULL) STRICT"
+
 -- the texts of the first schema
 abbrev pub texts_1 : List (List ℕ)
 texts_1 = meta_text ∷ curators_text ∷ licences_text ∷ fixed_text ∷ orgs_text ∷ petitions_text ∷ entries_text ∷ reserved_text ∷ kept_text ∷ []
@@ -81,3 +89,7 @@ texts_3 = texts_2 ++ vendors_text ∷ spans3_text ∷ entries3_text ∷ petition
 -- the fourth adds the digests and the reasons
 abbrev pub texts_4 : List (List ℕ)
 texts_4 = texts_3 ++ digests4_text ∷ reasons4_text ∷ []
+
+-- the fifth adds the times of petitions
+abbrev pub texts_5 : List (List ℕ)
+texts_5 = texts_4 ++ opened5_text ∷ closed5_text ∷ []

@@ -48,3 +48,9 @@ digests4_tree = 20
 
 abbrev pub reasons4_tree : ℕ
 reasons4_tree = 21
+
+abbrev pub opened5_tree : ℕ
+opened5_tree = 22
+
+abbrev pub closed5_tree : ℕ
+closed5_tree = 23

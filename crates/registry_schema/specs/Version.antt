@@ -16,6 +16,9 @@ names_3 = names_2 ++ codes "vendors" ∷ codes "spans3" ∷ codes "entries3" ∷
 abbrev pub names_4 : List (List ℕ)
 names_4 = names_3 ++ codes "digests4" ∷ codes "reasons4" ∷ []
 
+abbrev pub names_5 : List (List ℕ)
+names_5 = names_4 ++ codes "opened5" ∷ codes "closed5" ∷ []
+
 -- the tables have exactly these names, in this order
 abbrev pub are_named : List (List ℕ) → List Table → Bool
 are_named [] [] = true
@@ -30,4 +33,5 @@ version_named tables =
     else if are_named names_2 tables then Some 2
     else if are_named names_3 tables then Some 3
     else if are_named names_4 tables then Some 4
+    else if are_named names_5 tables then Some 5
     else None

@@ -1,7 +1,7 @@
 //! The tables that the later schemas add to a store, which may have rows.
 
 ghost use Rattle.std.specs.Prelude.{[], ◌∷◌};
-ghost use Rattle.registry_schema.specs.Schema.{schema_1, schema_2, past_vendors, past_spans3, past_entries3, schema_3, past_digests4, spans, vendors, spans3, entries3, petitions3, digests4, reasons4};
+ghost use Rattle.registry_schema.specs.Schema.{schema_1, schema_2, past_vendors, past_spans3, past_entries3, schema_3, past_digests4, schema_4, past_opened5, spans, vendors, spans3, entries3, petitions3, digests4, reasons4, opened5, closed5};
 ghost use Rattle.registry_schema.specs.Steps.{WritesTables};
 ghost use Rattle.table_laws.specs.Making.{AddsTo};
 
@@ -99,11 +99,49 @@ pub fn add_fourth<S: Alter>(tx: &mut Transaction<'_, S>) -> Result<(), TableFaul
     Ok(())
 }
 
-/// Creates the tables that the third and the fourth schema add, for a store of the second.
-pub fn add_third_and_fourth<S: Alter>(tx: &mut Transaction<'_, S>) -> Result<(), TableFault>
-    ensures writes { WritesTables S.Store tx.old.conn tx.new.conn result (AddsTo schema_2 (vendors ∷ spans3 ∷ entries3 ∷ petitions3 ∷ digests4 ∷ reasons4 ∷ [])) }
+fn create_opened5<S: Alter>(tx: &mut Transaction<'_, S>) -> Result<(), TableFault>
+    ensures writes { WritesTables S.Store tx.old.conn tx.new.conn result (AddsTo schema_4 (opened5 ∷ [])) }
+{
+    tx.execute(
+        "CREATE TABLE opened5 (petition INTEGER PRIMARY KEY, time TEXT NOT NULL) STRICT",
+        &[],
+    )?;
+    Ok(())
+}
+
+fn create_closed5<S: Alter>(tx: &mut Transaction<'_, S>) -> Result<(), TableFault>
+    ensures writes { WritesTables S.Store tx.old.conn tx.new.conn result (AddsTo past_opened5 (closed5 ∷ [])) }
+{
+    tx.execute(
+        "CREATE TABLE closed5 (petition INTEGER PRIMARY KEY, time TEXT NOT NULL) STRICT",
+        &[],
+    )?;
+    Ok(())
+}
+
+/// Creates the tables that the fifth schema adds.
+pub fn add_fifth<S: Alter>(tx: &mut Transaction<'_, S>) -> Result<(), TableFault>
+    ensures writes { WritesTables S.Store tx.old.conn tx.new.conn result (AddsTo schema_4 (opened5 ∷ closed5 ∷ [])) }
+{
+    create_opened5(tx)?;
+    create_closed5(tx)?;
+    Ok(())
+}
+
+/// Creates the tables that the fourth and the fifth schema add, for a store of the third.
+pub fn add_fourth_and_fifth<S: Alter>(tx: &mut Transaction<'_, S>) -> Result<(), TableFault>
+    ensures writes { WritesTables S.Store tx.old.conn tx.new.conn result (AddsTo schema_3 (digests4 ∷ reasons4 ∷ opened5 ∷ closed5 ∷ [])) }
+{
+    add_fourth(tx)?;
+    add_fifth(tx)?;
+    Ok(())
+}
+
+/// Creates the tables that the third, the fourth and the fifth schema add, for a store of the second.
+pub fn add_third_to_fifth<S: Alter>(tx: &mut Transaction<'_, S>) -> Result<(), TableFault>
+    ensures writes { WritesTables S.Store tx.old.conn tx.new.conn result (AddsTo schema_2 (vendors ∷ spans3 ∷ entries3 ∷ petitions3 ∷ digests4 ∷ reasons4 ∷ opened5 ∷ closed5 ∷ [])) }
 {
     add_third(tx)?;
-    add_fourth(tx)?;
+    add_fourth_and_fifth(tx)?;
     Ok(())
 }

@@ -3,7 +3,7 @@
 
 pub use create::create_tables;
 pub use fault::{TableFault, fault_of};
-pub use later::{add_fourth, add_second, add_third_and_fourth};
+pub use later::{add_fifth, add_fourth_and_fifth, add_second, add_third_to_fifth};
 pub use version::{has_meta, is_empty, version_of};
 
 mod create;

@@ -4,7 +4,7 @@ ghost use Rattle.std.specs.Prelude.{◌≡◌, IsTrue, Some, false, map};
 ghost use Rattle.sqlite.specs.State.{IsLive};
 ghost use Rattle.sqlite.specs.Held.{state};
 ghost use Rattle.table_laws.specs.Making.{no_schema, HasTables};
-ghost use Rattle.registry_schema.specs.Texts.{texts_1, texts_2, texts_3, texts_4};
+ghost use Rattle.registry_schema.specs.Texts.{texts_1, texts_2, texts_3, texts_4, texts_5};
 ghost use Rattle.registry_schema.specs.Version.{are_named, version_named};
 ghost use Rattle.registry_schema.specs.Meta.{has_meta_table};
 
@@ -94,6 +94,27 @@ const FOURTH: [&str; 16] = [
     "reasons4",
 ];
 
+const FIFTH: [&str; 18] = [
+    "meta",
+    "curators",
+    "licences",
+    "fixed",
+    "orgs",
+    "petitions",
+    "entries",
+    "reserved",
+    "kept",
+    "spans",
+    "vendors",
+    "spans3",
+    "entries3",
+    "petitions3",
+    "digests4",
+    "reasons4",
+    "opened5",
+    "closed5",
+];
+
 // Returns whether the tables have exactly these names, in this order.
 fn have_names(tables: &[Table], names: &[&str]) -> bool
     ensures { result ≡ are_named (map (λ name. name.now) names.now) tables.now }
@@ -118,6 +139,8 @@ fn version_by(tables: &[Table]) -> Option<u8>
         Some(3)
     } else if have_names(tables, &FOURTH) {
         Some(4)
+    } else if have_names(tables, &FIFTH) {
+        Some(5)
     } else {
         None
     }
@@ -130,6 +153,7 @@ pub fn version_of<S: Alter>(conn: &Connection<S>) -> Option<u8>
     ensures second { IsTrue (state S.Store conn.now).is_open → HasTables texts_2 (state S.Store conn.now).now.trees → result ≡ Some 2 }
     ensures third { IsTrue (state S.Store conn.now).is_open → HasTables texts_3 (state S.Store conn.now).now.trees → result ≡ Some 3 }
     ensures fourth { IsTrue (state S.Store conn.now).is_open → HasTables texts_4 (state S.Store conn.now).now.trees → result ≡ Some 4 }
+    ensures fifth { IsTrue (state S.Store conn.now).is_open → HasTables texts_5 (state S.Store conn.now).now.trees → result ≡ Some 5 }
     ensures named { result ≡ version_named (state S.Store conn.now).now.schema.tables }
     ensures live { IsLive (state S.Store conn.now) }
 {

@@ -54,7 +54,7 @@ module _ (old mid new : State) (before after : Summary) (r : Request) (d : Deed)
     (carry : (h : History) (x : Request) → Legal h → AreTotalsOf h before.totals → verdict h x ≡ New d → AreTotalsOf (with_deed h d) after.totals)
     (first : Goes old mid) (rows : (h more : History) → Legal h → Legal more → more.founding ≡ h.founding → HoldsRows newest old.now h → LeadsTo changes h more → HoldsUnkept mid.now h more) where
   pub wrote_both : Goes mid new
-      → ((h : History) (x : Deed) → Legal (with_deed h x) → IsKeptAs x r reply → IsHead h before.head → HoldsUnkept mid.now h (with_deed h x) → HoldsRows newest new.now (with_deed h x))
+      → ((h : History) (x : Deed) → Legal (with_deed h x) → IsKeptAs x r reply → x.act ≡ d.act → IsHead h before.head → HoldsUnkept mid.now h (with_deed h x) → HoldsRows newest new.now (with_deed h x))
       → ((h : History) (x : Deed) → IsKeptAs x r reply → IsHead h before.head → IsHead (with_deed h x) after.head)
       → Wrote old new before after r d
   wrote_both second kept headed = record {
@@ -63,7 +63,7 @@ module _ (old mid new : State) (before after : Summary) (r : Request) (d : Deed)
         let legal = legal_new h r d counts.legal is in
         let of = new_is_of h r d is in
         let same : IsKeptAs d r reply = record { caller = ap (λ (x : Request). x.caller) of; key = ap (λ (x : Request). x.key) of; order = ap (λ (x : Request). x.order) of; time = ap (λ (x : Request). x.time) of; said = said } in
-        kept h d legal same counts.head_is (rows h (with_deed h d) counts.legal legal refl rows_of (lead h r counts.legal is));
+        kept h d legal same refl counts.head_is (rows h (with_deed h d) counts.legal legal refl rows_of (lead h r counts.legal is));
     carried = λ h counts is.
         let of = new_is_of h r d is in
         let same : IsKeptAs d r reply = record { caller = ap (λ (x : Request). x.caller) of; key = ap (λ (x : Request). x.key) of; order = ap (λ (x : Request). x.order) of; time = ap (λ (x : Request). x.time) of; said = said } in

@@ -93,7 +93,7 @@ fn write<S: Alter, W: Witness>(
         return Err(TableFault::NoMemory);
     };
     store(alloc, tx, changes.as_slice())?;
-    let head = keep_reply(alloc, tx, &summary.head, request, reply)?;
+    let head = keep_reply(alloc, tx, &summary.head, request, &deed.act, reply)?;
     if let Err(why) = witness.see(request, reply) {
         return Ok(Err(why));
     }

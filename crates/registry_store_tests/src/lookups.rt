@@ -5,7 +5,7 @@ use sqlite::Alter;
 use std::alloc::Global;
 use std::test::Fail;
 use store_visits::values::slug;
-use usbnum_core::{Number, Pid, Slug, Vid};
+use usbnum_core::{Number, Pid, Slug, Time, Vid};
 
 /// Keys to look up, some of which exist.
 #[derive(Drop)]
@@ -80,6 +80,23 @@ fn add_reason<S: Alter>(registry: &mut Registry<S>, id: u32, text: &mut String) 
     }
 }
 
+fn add_time(what: &str, time: Option<&Time>, text: &mut String) -> bool {
+    match time {
+        Some(time) => writeln!(text, "{what}: {time}").is_ok(),
+        None => true,
+    }
+}
+
+fn add_times<S: Alter>(registry: &mut Registry<S>, id: u32, text: &mut String) -> bool {
+    match registry.petition_times(id) {
+        Ok(times) => {
+            add_time("opened", times.opened.as_ref(), text)
+                && add_time("closed", times.closed.as_ref(), text)
+        }
+        Err(_) => false,
+    }
+}
+
 fn add_org<S: Alter>(registry: &mut Registry<S>, slug: &Slug, text: &mut String) -> bool {
     match registry.org(slug) {
         Ok(Some(org)) => {
@@ -103,7 +120,10 @@ pub(crate) fn look_up<S: Alter>(
         }
     }
     for id in keys.petitions {
-        if !(add_petition(registry, id, text) && add_reason(registry, id, text)) {
+        if !(add_petition(registry, id, text)
+            && add_reason(registry, id, text)
+            && add_times(registry, id, text))
+        {
             return false;
         }
     }

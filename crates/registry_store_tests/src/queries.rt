@@ -114,6 +114,7 @@ cafe:0001 false false
 2 1000 acme Lamp
 3 1209 acme Fan
 declined: Not a product
+closed: 2026-11-29T07:00:00Z
 4294967295
 acme Acme Tools, ann
 bolt Bolt, bob

@@ -60,7 +60,7 @@ fn run(steps: &'static [Step], first: usize, last: usize, how: How, least: u64) 
         last,
         how,
         calls: (0, MANY),
-        schemas: "4|\n",
+        schemas: "5|\n",
         least,
     }
 }

@@ -7,7 +7,7 @@ use Rattle.sqlite.specs.State.{HasCleanDisk, IsLive}
 use Rattle.sqlite.specs.Effect.{Database}
 use Rattle.sqlite_catalog.specs.Listing.{IsSound}
 use Rattle.table_laws.specs.Making.{no_schema, IsBlank, Adds}
-use Rattle.registry_schema.specs.Schema.{schema_4}
+use Rattle.registry_schema.specs.Schema.{schema_5}
 use Rattle.registry_schema.specs.Steps.{WritesTables}
 use Rattle.registry_rules.specs.History.{founded}
 use Rattle.registry_rules.specs.declared.founding.Founding.{Founding}
@@ -22,7 +22,7 @@ pub blank_of : (db : Database) → db.schema ≡ no_schema → IsSound db.schema
 blank_of db is sound = record { is = is; sound = subst (λ s. IsSound s db.trees) is sound; none = tt }
 
 -- tables without rows have no values
-pub blank_holds : (db : Database) → IsBlank schema_4 db → Holds db no_rows
+pub blank_holds : (db : Database) → IsBlank schema_5 db → Holds db no_rows
 blank_holds db blank = record {
   schema = blank.is;
   sound = blank.sound;
@@ -43,6 +43,8 @@ blank_holds db blank = record {
     petitions = record { rows_are = blank.none.1.1.1.1.1.1.1.1.1.1.1.1.1.0; keyed = tt; valid = tt };
     digests = record { rows_are = blank.none.1.1.1.1.1.1.1.1.1.1.1.1.1.1.0; keyed = tt; valid = tt };
     reasons = record { rows_are = blank.none.1.1.1.1.1.1.1.1.1.1.1.1.1.1.1.0; keyed = tt; valid = tt };
+    opened = record { rows_are = blank.none.1.1.1.1.1.1.1.1.1.1.1.1.1.1.1.1.0; keyed = tt; valid = tt };
+    closed = record { rows_are = blank.none.1.1.1.1.1.1.1.1.1.1.1.1.1.1.1.1.1.0; keyed = tt; valid = tt };
   };
 }
 
@@ -55,7 +57,7 @@ founding_rows db founding valid holds = goes_out db (founded founding) (all_held
 
 -- what the transaction of a founding shows at its end
 pub founding_shown : {S A : Type 0} {g : Ghosts S} {mid last : MutBor (Held S)} {x : A} (old begun : Held S) (founding : Founding) → begun ≡ record old { in_transaction = true } → (state g old).now.schema ≡ no_schema → IsLive (state g old)
-    → (HasCleanDisk (state g mid.now) → IsTrue (state g begun).in_transaction → Adds no_schema schema_4 (state g begun) (state g mid.now)) → WritesTables g mid last (Ok x) (Changes (with_founding founding)) → IsFounding founding
+    → (HasCleanDisk (state g mid.now) → IsTrue (state g begun).in_transaction → Adds no_schema schema_5 (state g begun) (state g mid.now)) → WritesTables g mid last (Ok x) (Changes (with_founding founding)) → IsFounding founding
     → HasCleanDisk (state g last.now) → IsTrue (state g old).is_open × ((state g old).now.schema ≡ no_schema) × Rows newest (state g last.now).now.trees (founded founding)
 founding_shown {S} {A} {g} {mid} {last} old begun founding started is live made wrote valid fine =
     let one = made (omega (arith, wrote.survives.clean)) (rw started refl) in

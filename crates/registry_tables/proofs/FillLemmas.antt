@@ -18,6 +18,7 @@ use Rattle.registry_schema.specs.declared.fault.TableFault.TheVariants.{Foreign}
 use Rattle.registry_rules.proofs.FormLemmas.{same_some}
 use Rattle.registry_rules.specs.Accepted.{IsValid, AreValid, accepted_of, accepted_by}
 use Rattle.registry_rules.specs.History.{History}
+use Rattle.registry_rules.specs.Query.{opened_at, closed_at}
 use Rattle.registry_rules.specs.declared.accepted.Accepted.{Accepted}
 use Rattle.registry_rules.specs.declared.deed.Deed.{Deed}
 use Rattle.registry_rules.specs.declared.founding.Founding.{Founding}
@@ -29,7 +30,7 @@ use Rattle.registry_rows.specs.Rows.{digest_key, is_after}
 use Rattle.registry_rows.specs.Steps.{Changes}
 use Rattle.registry_rows.specs.Tables.{Tables, Holds, replies_after}
 use Rattle.registry_old_rows.specs.Old.{IsOlder}
-use Rattle.registry_tables.specs.Rows.{newest, digest_rows_from, digest_rows, AreRecords, AreReasons, AreKeptReplies, IsRecorded, kept_row_of, HasValidOrder}
+use Rattle.registry_tables.specs.Rows.{newest, digest_rows_from, digest_rows, AreRecords, AreReasons, AreTimes, AreKeptReplies, IsRecorded, kept_row_of, HasValidOrder}
 use Rattle.registry_tables.specs.Raising.{Raises, raised_to}
 use Rattle.registry_tables.specs.Versions.{HoldsOf}
 use Rattle.registry_tables.specs.Written.{IsWritten, AreOf, HasNoTime, IsFilledTo, FillsLines, FillsTo, FillsRest, FillsAll, digest_after_lines}
@@ -41,7 +42,7 @@ use Rattle.registry_tables.proofs.RecordLemmas.{orders_valid, there}
 
 -- the values before the digests are written
 abbrev pub undigested : Tables → Tables
-undigested t = record t { digests = []; reasons = [] }
+undigested t = record t { digests = []; reasons = []; opened = []; closed = [] }
 
 -- ---- no request of an older store has a time
 
@@ -69,7 +70,7 @@ unfolding HoldsOf
 filled_now old new vendor name h t vid named older had recorded holds fills =
     let it = fills.1 (undigested t) holds in
     let none = subst (λ (rs : List (ℕ × List ℕ)). AreReasons h rs) older.reasons had.reasons in
-    let records : (digests : List (ℕ × DigestRow)) → AreRecords h (record t { digests = digests; reasons = [] }) = λ digests. record {
+    let records : (digests : List (ℕ × DigestRow)) → AreRecords h (record t { digests = digests; reasons = []; opened = []; closed = [] }) = λ digests. record {
       founding = had.founding;
       metas = had.metas;
       curators = had.curators;
@@ -82,12 +83,13 @@ filled_now old new vendor name h t vid named older had recorded holds fills =
       petitions = had.petitions;
       reasons = none;
     } in (
-      record t { digests = it.0; reasons = [] },
-      inr (inr (inr (refl, it.1))),
+      record t { digests = it.0; reasons = []; opened = []; closed = [] },
+      inr (inr (inr (inr (refl, it.1)))),
       records it.0,
       record {
         kept = recorded.kept;
         digests = λ legal valid. it.2 refl h (record { legal = legal; records = records []; kept = recorded.kept }) vid named valid (has_no_time h t older (recorded.digests legal valid));
+        times = λ legal valid. (let was = recorded.times legal valid in record { opened_then = subst (AreTimes (opened_at h)) older.opened was.opened_then; closed_then = subst (AreTimes (closed_at h)) older.closed was.closed_then });
       },
     )
 
@@ -119,12 +121,12 @@ length_first n [] x at = absurd (none-some x at)
 length_first zero (y ∷ ys) x at = refl
 length_first (suc n) (y ∷ ys) x at = ap suc (length_first n ys x at)
 
-take_own : {X : Type 0} (n : ℕ) (l : List X) → take n l ≡ take (length (take n l)) l
+pub take_own : {X : Type 0} (n : ℕ) (l : List X) → take n l ≡ take (length (take n l)) l
 take_own zero l = refl
 take_own (suc n) [] = refl
 take_own (suc n) (x ∷ xs) = ap (λ l. x ∷ l) (take_own n xs)
 
-none_left : {X : Type 0} (most n : ℕ) (l : List X) → 0 < most → [] ≡ take most (drop n l) → length l ≤ n
+pub none_left : {X : Type 0} (most n : ℕ) (l : List X) → 0 < most → [] ≡ take most (drop n l) → length l ≤ n
 none_left zero n l some none = absurd (omega (arith, some))
 none_left (suc most) n [] some none = omega arith
 none_left (suc most) zero (x ∷ xs) some none = absurd cc

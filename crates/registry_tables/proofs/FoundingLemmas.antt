@@ -92,4 +92,4 @@ founded_kept : (founding : Founding) → AreKeptReplies (founded founding) []
 founded_kept founding = record { in_order = refl; each = λ caller key. refl; once = tt }
 
 pub founded_recorded : (founding : Founding) → IsRecorded (founded founding) (with_founding founding no_rows)
-founded_recorded founding = record { kept = founded_kept founding; digests = λ legal valid. refl }
+founded_recorded founding = record { kept = founded_kept founding; digests = λ legal valid. refl; times = λ legal valid. record { opened_then = λ i. refl; closed_then = λ i. refl } }

@@ -15,7 +15,7 @@ use Rattle.sqlite_keyed.specs.Lists.{delete_where}
 use Rattle.table_laws.proofs.FoundLemmas.{apart_put}
 use Rattle.table_laws.proofs.UnnumberedLemmas.{values_after}
 use Rattle.registry_rules.specs.History.{History, with_deed, sooner}
-use Rattle.registry_rules.specs.Query.{deed_under, answer_if}
+use Rattle.registry_rules.specs.Query.{deed_under, answer_if, opened_by, closed_by}
 use Rattle.registry_rules.specs.Run.{Legal}
 use Rattle.registry_rules.specs.Orders.{canonical_form}
 use Rattle.registry_rules.specs.Verdict.{kept_of, kept_under, verdict, verdict_by}
@@ -30,12 +30,14 @@ use Rattle.registry_rows.specs.declared.digests.DigestRow.{DigestRow}
 use Rattle.registry_rows.specs.declared.kept.KeptRow.{KeptRow}
 use Rattle.registry_rows.specs.Rows.{is_kept_under, digest_key}
 use Rattle.registry_rows.specs.Tables.{Tables, Holds}
+use Rattle.registry_tables.specs.Times.{times_with}
 use Rattle.registry_tables.specs.Rows.{newest, NoTwo, numbered_from, AreKeptReplies, kept_row_of, digest_rows, HoldsRows, HoldsUnkept}
 use Rattle.registry_tables.specs.Head.{IsHead}
 use Rattle.registry_tables.specs.declared.head.Head.{Head}
 use Rattle.registry_tables.specs.Calls.{IsKeptAs}
 use Rattle.registry_tables.proofs.DigestLemmas.{row_of, digest_put, count_after}
 use Rattle.registry_tables.proofs.NumberingLemmas.{next_in_turn}
+use Rattle.registry_tables.proofs.TimeLemmas.{times_kept}
 use Rattle.registry_tables.proofs.ViewLemmas.{same_bytes, kept_put}
 
 never_new : (b : Bool) (text : List ℕ) (refusal : Refusal) (deed : Deed) → cond b (VerdictKept text) (Refused refusal) ≡ New deed → ⊥
@@ -134,15 +136,19 @@ module _ (h : History) (deed : Deed) (legal : Legal (with_deed h deed)) (request
         ap (λ (l : List (ℕ × DigestRow)). insert_by digest_key l digest_row_put) (was (legal_before h.founding deed h.deeds legal) (All-tail IsValid deed h.deeds valid))
         ∙ ap (insert_by digest_key (digest_rows h)) same ∙ digest_put h deed
 
-  pub kept_now : (old new : State) (head next : Head) → IsHead h head → next.count ≡ head.count + 1 → next.digest ≡ line_digest head.digest (accepted_line (record { request = request; reply = reply }))
-      → ((t : Tables) → Holds old.now t → Holds new.now (record t { kept = rows_after t.kept; digests = insert_by digest_key t.digests (next.count, record { time = request.time; digest = next.digest }) }))
+  pub kept_now : (old new : State) (act : Act) → deed.act ≡ act → (head next : Head) → IsHead h head → next.count ≡ head.count + 1 → next.digest ≡ line_digest head.digest (accepted_line (record { request = request; reply = reply }))
+      → ((t : Tables) → Holds old.now t → Holds new.now (record t { kept = rows_after t.kept; digests = insert_by digest_key t.digests (next.count, record { time = request.time; digest = next.digest }); opened = times_with (opened_by act) request.time t.opened; closed = times_with (closed_by act) request.time t.closed }))
       → HoldsUnkept old.now h (with_deed h deed) → HoldsRows newest new.now (with_deed h deed)
   unfolding HoldsUnkept HoldsRows
-  kept_now old new head next is_head count digest after had =
+  kept_now old new act acts head next is_head count digest after had =
       let records = had.2 in (
         refl,
-        record had.0 { kept = rows_after had.0.kept; digests = insert_by digest_key had.0.digests (next.count, record { time = request.time; digest = next.digest }) },
+        record had.0 { kept = rows_after had.0.kept; digests = insert_by digest_key had.0.digests (next.count, record { time = request.time; digest = next.digest }); opened = times_with (opened_by act) request.time had.0.opened; closed = times_with (closed_by act) request.time had.0.closed },
         after had.0 had.1,
         record { founding = records.founding; metas = records.metas; curators = records.curators; licences = records.licences; fixed = records.fixed; orgs = records.orgs; vendors = records.vendors; spans = records.spans; entries = records.entries; petitions = records.petitions; reasons = records.reasons },
-        record { kept = kept_after had.0.kept had.3.kept; digests = λ _ valid. digest_kept head next is_head count digest had.0.digests had.3.digests valid },
+        record {
+          kept = kept_after had.0.kept had.3.kept;
+          digests = λ _ valid. digest_kept head next is_head count digest had.0.digests had.3.digests valid;
+          times = λ _ valid. times_kept h deed act request.time had.0.opened had.0.closed acts keeps.time (had.3.times (legal_before h.founding deed h.deeds legal) (All-tail IsValid deed h.deeds valid));
+        },
       )

@@ -17,7 +17,7 @@ use Rattle.registry_rows.proofs.StepLemmas.{reads_by}
 use Rattle.registry_tables.proofs.NewestLemmas.{last_passes}
 use Rattle.registry_tables.proofs.OpeningLemmas.{last_is_only}
 use Rattle.registry_tables.specs.Known.{SaysVersion, names_version}
-use Rattle.registry_tables.specs.Raising.{IsMarked, Third, IsMarkedThird}
+use Rattle.registry_tables.specs.Raising.{IsMarked, Raised, IsMarkedNewest}
 
 module _ (version : ℕ) (old new : State) (all : List Meta) (read : GoesOn old new × ((x : Second) → IsHeld old.now x → IsUnchanged old new × (all ≡ x.tables.metas))) where
   -- the last row is the only one
@@ -60,20 +60,20 @@ pub fails_marked : {S : Type 0} {g : Ghosts S} {a b : MutBor (Held S)} {A B : Ty
     → Reads g a b (Err e) IsHeld Says → Reads g a b r (IsMarked version) Also
 fails_marked {S} {g} {a} {b} {A} {B} {version} {Says} {Also} {e} {r} is read = subst (λ r. Reads g a b r (IsMarked version) Also) (sym is) (reads_by (λ read. (λ foreign. (let none = read.0 foreign in (none.0, λ x marked. none.1 x marked.held)), read.1, λ is x marked. read.2 is x marked.held)) read)
 
--- ---- the same once the tables of the newest schema are there, while meta still names the third version
+-- ---- the same once the tables of the newest schema are there, while meta still names this version
 
-module _ (old new : State) (all : List Meta) (read : GoesOn old new × ((t : Tables) → Holds old.now t → IsUnchanged old new × (all ≡ t.metas))) where
-  pub third_told : (rest : List Meta) (meta : Meta) → all ≡ rest ++ meta ∷ [] → (result : Result Meta TableFault)
-      → MatchResult result (λ same. (same ≡ meta) × (meta.version ≡ 3)) (λ fault. (fault ≡ Foreign) × (meta.version ≢ 3))
-      → Tells old new (IsMarkedThird old.now) result (λ x m. x.tables.metas ≡ m ∷ [])
-  third_told rest meta is (Ok m) says = (
+module _ (version : ℕ) (old new : State) (all : List Meta) (read : GoesOn old new × ((t : Tables) → Holds old.now t → IsUnchanged old new × (all ≡ t.metas))) where
+  pub newest_told : (rest : List Meta) (meta : Meta) → all ≡ rest ++ meta ∷ [] → (result : Result Meta TableFault)
+      → MatchResult result (λ same. (same ≡ meta) × (meta.version ≡ version)) (λ fault. (fault ≡ Foreign) × (meta.version ≢ version))
+      → Tells old new (IsMarkedNewest version old.now) result (λ x m. x.tables.metas ≡ m ∷ [])
+  newest_told rest meta is (Ok m) says = (
     read.0,
     λ x marked.
         (let it = read.1 x.tables marked.held in
         let same : meta ≡ x.meta = last_is_only rest meta x.meta (sym marked.only ∙ sym it.1 ∙ is) in
         (it.0, marked.only ∙ ap (λ l. l ∷ []) (sym same ∙ sym says.0))),
   )
-  third_told rest meta is (Err e) says = (
+  newest_told rest meta is (Err e) says = (
     λ _. (
       read.0,
       λ x marked.
@@ -85,18 +85,18 @@ module _ (old new : State) (all : List Meta) (read : GoesOn old new × ((t : Tab
     λ is. (let never = sym says.0 ∙ is in absurd cc),
   )
 
-  pub third_says : (rest : List Meta) (meta : Meta) → all ≡ rest ++ meta ∷ [] → (result : Result Meta TableFault)
-      → MatchResult result (λ same. (same ≡ meta) × (meta.version ≡ 3)) (λ fault. (fault ≡ Foreign) × (meta.version ≢ 3)) → OnOk result ((t : Tables) → Holds old.now t → names_version 3 t ≡ true)
-  third_says rest meta is (Ok m) says = λ t held.
+  pub newest_says : (rest : List Meta) (meta : Meta) → all ≡ rest ++ meta ∷ [] → (result : Result Meta TableFault)
+      → MatchResult result (λ same. (same ≡ meta) × (meta.version ≡ version)) (λ fault. (fault ≡ Foreign) × (meta.version ≢ version)) → OnOk result ((t : Tables) → Holds old.now t → names_version version t ≡ true)
+  newest_says rest meta is (Ok m) says = λ t held.
       (let same : all ≡ t.metas = (read.1 t held).1 in
-      let names = λ (m : Meta). nat_eq m.version 3 in
+      let names = λ (m : Meta). nat_eq m.version version in
       subst (λ metas. list_any names metas ≡ true) (sym is ∙ same) (last_passes names rest meta (grind (arith, nat_tests, says.1))))
-  third_says rest meta is (Err e) says = tt
+  newest_says rest meta is (Err e) says = tt
 
-  pub no_third : (0 < length all → ⊥) → Tells old new (IsMarkedThird old.now) (Err Foreign) (λ x (m : Meta). x.tables.metas ≡ m ∷ [])
-  no_third none =
+  pub no_newest : (0 < length all → ⊥) → Tells old new (IsMarkedNewest version old.now) (Err Foreign) (λ x (m : Meta). x.tables.metas ≡ m ∷ [])
+  no_newest none =
       (λ _. (read.0, λ x marked. (let it = read.1 x.tables marked.held in absurd (none (subst (λ l. 0 < length l) (sym (it.1 ∙ marked.only)) (omega arith))))), inl read.0, λ is. absurd cc)
 
-pub fails_third : {S : Type 0} {g : Ghosts S} {a b : MutBor (Held S)} {A B : Type 0} {Says : Tables → A → Type 0} {Also : Third → B → Type 0} {e : TableFault} {r : Result B TableFault} → r ≡ Err e
-    → Reads g a b (Err e) Holds Says → Reads g a b r IsMarkedThird Also
-fails_third {S} {g} {a} {b} {A} {B} {Says} {Also} {e} {r} is read = subst (λ r. Reads g a b r IsMarkedThird Also) (sym is) (reads_by (λ read. (λ foreign. (let none = read.0 foreign in (none.0, λ x marked. none.1 x.tables marked.held)), read.1, λ is x marked. read.2 is x.tables marked.held)) read)
+pub fails_newest : {S : Type 0} {g : Ghosts S} {a b : MutBor (Held S)} {A B : Type 0} {version : ℕ} {Says : Tables → A → Type 0} {Also : Raised → B → Type 0} {e : TableFault} {r : Result B TableFault} → r ≡ Err e
+    → Reads g a b (Err e) Holds Says → Reads g a b r (IsMarkedNewest version) Also
+fails_newest {S} {g} {a} {b} {A} {B} {version} {Says} {Also} {e} {r} is read = subst (λ r. Reads g a b r (IsMarkedNewest version) Also) (sym is) (reads_by (λ read. (λ foreign. (let none = read.0 foreign in (none.0, λ x marked. none.1 x.tables marked.held)), read.1, λ is x marked. read.2 is x.tables marked.held)) read)

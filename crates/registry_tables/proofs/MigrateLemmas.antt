@@ -7,7 +7,7 @@ use Rattle.sqlite.specs.Tree.{Trees}
 use Rattle.sqlite.specs.State.{State, Survives}
 use Rattle.sqlite.proofs.StateLemmas.{survives_weaker}
 use Rattle.table_laws.specs.Making.{HasTables}
-use Rattle.registry_schema.specs.Texts.{texts_1, texts_2, texts_3, texts_4}
+use Rattle.registry_schema.specs.Texts.{texts_1, texts_2, texts_3, texts_4, texts_5}
 use Rattle.registry_rules.specs.History.{History}
 use Rattle.registry_tables.specs.Rows.{newest, Rows}
 use Rattle.registry_tables.specs.Raising.{IsMadeBy, CommitsStep, CommitsTwo, CommitsLater, IsAtRest, StaysOpen}
@@ -15,22 +15,24 @@ use Rattle.registry_tables.specs.Raising.{IsMadeBy, CommitsStep, CommitsTwo, Com
 -- ---- the schema version of a store
 
 module _ (a : State) (told : Option ℕ) (first : IsTrue a.is_open → HasTables texts_1 a.now.trees → told ≡ Some 1) (second : IsTrue a.is_open → HasTables texts_2 a.now.trees → told ≡ Some 2)
-    (third : IsTrue a.is_open → HasTables texts_3 a.now.trees → told ≡ Some 3) (fourth : IsTrue a.is_open → HasTables texts_4 a.now.trees → told ≡ Some 4) where
+    (third : IsTrue a.is_open → HasTables texts_3 a.now.trees → told ≡ Some 3) (fourth : IsTrue a.is_open → HasTables texts_4 a.now.trees → told ≡ Some 4) (fifth : IsTrue a.is_open → HasTables texts_5 a.now.trees → told ≡ Some 5) where
   -- the version returned is the one its rows are in
   pub version_told : (version : ℕ) (h : History) → IsTrue a.is_open → Rows version a.now.trees h → told ≡ Some version
   unfolding Rows
   version_told version h is_open (t, inl (is, has), rest, kept) = first is_open has.has ∙ ap Some (sym is)
   version_told version h is_open (t, inr (inl (is, has)), rest, kept) = second is_open has.has ∙ ap Some (sym is)
   version_told version h is_open (t, inr (inr (inl (is, has))), rest, kept) = third is_open has.has ∙ ap Some (sym is)
-  version_told version h is_open (t, inr (inr (inr (is, has))), rest, kept) = fourth is_open has.has ∙ ap Some (sym is)
+  version_told version h is_open (t, inr (inr (inr (inl (is, has)))), rest, kept) = fourth is_open has.has ∙ ap Some (sym is)
+  version_told version h is_open (t, inr (inr (inr (inr (is, has)))), rest, kept) = fifth is_open has.has ∙ ap Some (sym is)
 
-  -- which is one of four
-  pub version_among : (h : History) (version : ℕ) → IsTrue a.is_open → Rows version a.now.trees h → (told ≡ Some 1) ⊎ ((told ≡ Some 2) ⊎ ((told ≡ Some 3) ⊎ (told ≡ Some 4)))
+  -- which is one of five
+  pub version_among : (h : History) (version : ℕ) → IsTrue a.is_open → Rows version a.now.trees h → (told ≡ Some 1) ⊎ ((told ≡ Some 2) ⊎ ((told ≡ Some 3) ⊎ ((told ≡ Some 4) ⊎ (told ≡ Some 5))))
   unfolding Rows
   version_among h version is_open (t, inl (is, has), rest, kept) = inl (first is_open has.has)
   version_among h version is_open (t, inr (inl (is, has)), rest, kept) = inr (inl (second is_open has.has))
   version_among h version is_open (t, inr (inr (inl (is, has))), rest, kept) = inr (inr (inl (third is_open has.has)))
-  version_among h version is_open (t, inr (inr (inr (is, has))), rest, kept) = inr (inr (inr (fourth is_open has.has)))
+  version_among h version is_open (t, inr (inr (inr (inl (is, has)))), rest, kept) = inr (inr (inr (inl (fourth is_open has.has))))
+  version_among h version is_open (t, inr (inr (inr (inr (is, has)))), rest, kept) = inr (inr (inr (inr (fifth is_open has.has))))
 
   same_version : (n version : ℕ) → told ≡ Some n → told ≡ Some version → n ≡ version
   same_version n version is told_is = cc
@@ -67,6 +69,9 @@ second_later a db step = (step.0, λ h rows. (newest, omega arith, step.1 h rows
 
 pub third_later : (a : State) (db : Trees) → CommitsStep 3 a db → IsTrue a.is_open × ((h : History) → Rows 3 a.now.trees h → (later : ℕ) × (3 ≤ later) × Rows later db h)
 third_later a db step = (step.0, λ h rows. (newest, omega arith, step.1 h rows))
+
+pub fourth_later : (a : State) (db : Trees) → CommitsStep 4 a db → IsTrue a.is_open × ((h : History) → Rows 4 a.now.trees h → (later : ℕ) × (4 ≤ later) × Rows later db h)
+fourth_later a db step = (step.0, λ h rows. (newest, omega arith, step.1 h rows))
 
 pub two_later : (a : State) (db : Trees) → CommitsTwo a db → IsTrue a.is_open × ((h : History) → Rows 1 a.now.trees h → (later : ℕ) × (1 ≤ later) × Rows later db h)
 two_later a db step = (step.0, λ h rows. one_of h (step.1 h rows))

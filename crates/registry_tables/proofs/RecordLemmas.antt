@@ -35,7 +35,7 @@ orders_valid [] valid = tt
 orders_valid (deed ∷ earlier) valid = all-append HasValidOrder (accepted_of earlier) (accepted_by deed ∷ []) (orders_valid earlier valid.1) (valid.0.order, tt)
 
 -- a part of the rows is that of the record
-rows_part : (most after : ℕ) (accepted : List Accepted) → take most (drop after (map kept_row_of accepted)) ≡ map kept_row_of (take most (drop after accepted))
+pub rows_part : (most after : ℕ) (accepted : List Accepted) → take most (drop after (map kept_row_of accepted)) ≡ map kept_row_of (take most (drop after accepted))
 rows_part most after accepted = ap (take most) (drop-map kept_row_of after accepted) ∙ take-map kept_row_of most (drop after accepted)
 
 -- the rows of a page, and their digests

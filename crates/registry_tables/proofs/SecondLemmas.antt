@@ -73,7 +73,8 @@ unfolding HoldsOf
 marked_first db h (t, inl first, had, kept) = (t, first.1, had, kept)
 marked_first db h (t, inr (inl second), had, kept) = absurd (let e = second.0 in omega (arith, e))
 marked_first db h (t, inr (inr (inl third)), had, kept) = absurd (let e = third.0 in omega (arith, e))
-marked_first db h (t, inr (inr (inr fourth)), had, kept) = absurd (let e = fourth.0 in omega (arith, e))
+marked_first db h (t, inr (inr (inr (inl fourth))), had, kept) = absurd (let e = fourth.0 in omega (arith, e))
+marked_first db h (t, inr (inr (inr (inr fifth))), had, kept) = absurd (let e = fifth.0 in omega (arith, e))
 
 -- the values after the table is created
 abbrev begun_values : History → Tables → List ℕ → Second
@@ -133,4 +134,4 @@ module _ (a s1 : State) (one : a.now.schema ≡ schema_1 → HasMore schema_1 (s
         let holds : HoldsSecond vid s6.now (with_version 2 (with_parts vid parts t)) [] =
         subst (λ ms. HoldsSecond vid s6.now (record t { spans = map (owned vid) parts; metas = ms }) []) metas
         (subst (λ ss. HoldsSecond vid s6.now (record t { spans = ss; metas = insert_by meta_key (map (at_version 1) t.metas) (meta_by 2 meta.vendor meta.name) }) []) filled said) in
-        (with_parts vid parts t, inr (inl (refl, record { one = it.1.one; older = record { times = it.1.older.times; reasons = it.1.older.reasons }; holds = holds })), records_with h t numbers it.2 it.1.reserved parts spread (λ n. same n ∙ ap (list_any (nat_eq n)) read.1), record { kept = it.3.kept; digests = it.3.digests })
+        (with_parts vid parts t, inr (inl (refl, record { one = it.1.one; older = record { times = it.1.older.times; reasons = it.1.older.reasons; opened = it.1.older.opened; closed = it.1.older.closed }; holds = holds })), records_with h t numbers it.2 it.1.reserved parts spread (λ n. same n ∙ ap (list_any (nat_eq n)) read.1), record { kept = it.3.kept; digests = it.3.digests; times = it.3.times })

@@ -11,6 +11,7 @@ use Rattle.usbnum_core.specs.declared.number.Number.{Number}
 use Rattle.usbnum_core.specs.declared.number.Span.{Span}
 use Rattle.table_laws.proofs.FoundLemmas.{apart_put}
 use Rattle.registry_rules.specs.History.{History}
+use Rattle.registry_rules.specs.Query.{opened_at, closed_at}
 use Rattle.registry_rules.specs.Records.{with_held, with_card, org_changed, petition_changed, entry_changed, reserved_changed, vendor_changed, licence_changed, reason_changed, after_all, LeadsTo}
 use Rattle.registry_rules.specs.declared.change.Change.{Change}
 use Rattle.registry_rules.specs.declared.change.Change.TheVariants.{PutOrg, PutPetition, PutEntry, SetHeld, SetCard, PutVendor, PutLicence, PutReason}
@@ -23,7 +24,7 @@ use Rattle.registry_rows.specs.Rows.{is_named, is_called, is_of, is_numbered, is
 use Rattle.registry_rows.specs.Steps.{Changes}
 use Rattle.registry_rows.specs.Tables.{Tables, Holds}
 use Rattle.registry_tables.specs.Changed.{applied, applied_all, with_spans, Makes}
-use Rattle.registry_tables.specs.Rows.{newest, NoTwo, IsFounding, vendor_span_has, AreApart, AreRecords, AreKeptReplies, IsRecorded, HoldsRows, HoldsUnkept}
+use Rattle.registry_tables.specs.Rows.{newest, NoTwo, IsFounding, vendor_span_has, AreApart, AreRecords, AreTimes, AreKeptReplies, IsRecorded, HoldsRows, HoldsUnkept}
 use Rattle.registry_tables.proofs.EntryLemmas.{entry_set, entries_once}
 use Rattle.registry_tables.proofs.ViewLemmas.{same_bytes, org_put, entry_put, petition_put, vendor_put, reason_put}
 
@@ -131,17 +132,19 @@ record IsRest (a b : Tables) : Type 0 where
   fixed : b.fixed ≡ a.fixed
   kept : b.kept ≡ a.kept
   digests : b.digests ≡ a.digests
+  opened : b.opened ≡ a.opened
+  closed : b.closed ≡ a.closed
 
 rest_one : (c : Change) (t : Tables) → IsRest t (applied c t)
-rest_one (PutOrg org) t = record { metas = refl; curators = refl; fixed = refl; kept = refl; digests = refl }
-rest_one _ t = record { metas = refl; curators = refl; fixed = refl; kept = refl; digests = refl }
+rest_one (PutOrg org) t = record { metas = refl; curators = refl; fixed = refl; kept = refl; digests = refl; opened = refl; closed = refl }
+rest_one _ t = record { metas = refl; curators = refl; fixed = refl; kept = refl; digests = refl; opened = refl; closed = refl }
 
 rest_all : (cs : List Change) (t : Tables) → IsRest t (applied_all cs t)
-rest_all [] t = record { metas = refl; curators = refl; fixed = refl; kept = refl; digests = refl }
+rest_all [] t = record { metas = refl; curators = refl; fixed = refl; kept = refl; digests = refl; opened = refl; closed = refl }
 rest_all (c ∷ cs) t =
     let first = rest_one c t in
     let later = rest_all cs (applied c t) in
-    record { metas = later.metas ∙ first.metas; curators = later.curators ∙ first.curators; fixed = later.fixed ∙ first.fixed; kept = later.kept ∙ first.kept; digests = later.digests ∙ first.digests }
+    record { metas = later.metas ∙ first.metas; curators = later.curators ∙ first.curators; fixed = later.fixed ∙ first.fixed; kept = later.kept ∙ first.kept; digests = later.digests ∙ first.digests; opened = later.opened ∙ first.opened; closed = later.closed ∙ first.closed }
 
 -- ---- one more change
 
@@ -209,11 +212,18 @@ module _ (cs : List Change) (h after : History) (founding : after.founding ≡ h
         reasons = λ i. view.reasons i ∙ ap (option_map (λ reason. (i, reason))) (leads.reasons i);
       }
 
-  recorded_same : (a b : Tables) → b.kept ≡ a.kept → b.digests ≡ a.digests → IsRecorded h a → IsRecorded h b
-  recorded_same a b kept digests was = record { kept = subst (λ rows. AreKeptReplies h rows) (sym kept) was.kept; digests = λ legal valid. digests ∙ was.digests legal valid }
+  rest_spans : (spans : List (ℕ × Span)) (t : Tables) → IsRest t (with_spans spans (applied_all cs t))
+  rest_spans spans t = let rest = rest_all cs t in record { metas = rest.metas; curators = rest.curators; fixed = rest.fixed; kept = rest.kept; digests = rest.digests; opened = rest.opened; closed = rest.closed }
+
+  recorded_same : (a b : Tables) → IsRest a b → IsRecorded h a → IsRecorded h b
+  recorded_same a b same was = record {
+    kept = subst (λ rows. AreKeptReplies h rows) (sym same.kept) was.kept;
+    digests = λ legal valid. same.digests ∙ was.digests legal valid;
+    times = λ legal valid. (let had = was.times legal valid in record { opened_then = subst (AreTimes (opened_at h)) (sym same.opened) had.opened_then; closed_then = subst (AreTimes (closed_at h)) (sym same.closed) had.closed_then });
+  }
 
   pub stored_now : (old new : State) → ((t : Tables) → Holds old.now t → IsAscending AreApart t.spans → AreMade cs t new.now) → HoldsRows newest old.now h → HoldsUnkept new.now h after
   unfolding HoldsRows HoldsUnkept
   stored_now old new made had =
       let now = made had.1 had.2 had.3.spans.apart in
-      (with_spans now.spans (applied_all cs had.1), now.holds, records_after had.1 new.now had.3 now, recorded_same had.1 (with_spans now.spans (applied_all cs had.1)) (rest_all cs had.1).kept (rest_all cs had.1).digests had.4)
+      (with_spans now.spans (applied_all cs had.1), now.holds, records_after had.1 new.now had.3 now, recorded_same had.1 (with_spans now.spans (applied_all cs had.1)) (rest_spans now.spans had.1) had.4)

@@ -3,7 +3,7 @@ use Rattle.std.proofs.Common.{◌≡◌, ℕ, inl, inr, List, [], ◌∷◌, map
 use Rattle.sqlite.specs.Effect.{Database}
 use Rattle.sqlite.specs.State.{State, IsUnchanged}
 use Rattle.sqlite_keyed.specs.Keyed.{insert_by}
-use Rattle.registry_schema.specs.Schema.{schema_2, vendors, spans3, entries3, petitions3, digests4, reasons4}
+use Rattle.registry_schema.specs.Schema.{schema_2, vendors, spans3, entries3, petitions3, digests4, reasons4, opened5, closed5}
 use Rattle.registry_rules.specs.History.{History}
 use Rattle.registry_rows.specs.declared.meta.Meta.{Meta}
 use Rattle.registry_rows.specs.Rows.{meta_key, vendor_key}
@@ -22,7 +22,7 @@ use Rattle.registry_tables.specs.Versions.{IsSecond, HoldsOf}
 use Rattle.registry_tables.specs.Raising.{emptied, moved, IsMarked, Raises}
 
 -- the new tables exist and are empty
-pub third_begins : (vid : ℕ) (a b : Database) (o : Tables) → HasMore schema_2 (vendors ∷ spans3 ∷ entries3 ∷ petitions3 ∷ digests4 ∷ reasons4 ∷ []) a b → HoldsSecond vid a o [] → HoldsBoth vid b o (emptied o)
+pub third_begins : (vid : ℕ) (a b : Database) (o : Tables) → HasMore schema_2 (vendors ∷ spans3 ∷ entries3 ∷ petitions3 ∷ digests4 ∷ reasons4 ∷ opened5 ∷ closed5 ∷ []) a b → HoldsSecond vid a o [] → HoldsBoth vid b o (emptied o)
 third_begins vid a b o more has = record {
   schema = more.is;
   sound = more.sound;
@@ -34,12 +34,14 @@ third_begins vid a b o more has = record {
     petitions = record { rows_are = more.empty.1.1.1.0; keyed = tt; valid = tt };
     digests = record { rows_are = more.empty.1.1.1.1.0; keyed = tt; valid = tt };
     reasons = record { rows_are = more.empty.1.1.1.1.1.0; keyed = tt; valid = tt };
+    opened = record { rows_are = more.empty.1.1.1.1.1.1.0; keyed = tt; valid = tt };
+    closed = record { rows_are = more.empty.1.1.1.1.1.1.1.0; keyed = tt; valid = tt };
   };
 }
 
--- what the second schema has in the newest: no vendors yet, and no digests
+-- what the second schema has in the newest: no vendors yet, and no digests, reasons and times
 abbrev bare : Tables → Tables
-bare o = record o { vendors = []; digests = []; reasons = [] }
+bare o = record o { vendors = []; digests = []; reasons = []; opened = []; closed = [] }
 
 -- the old tables are empty, and their rows are in the new ones
 pub third_ends : (vid : ℕ) (c : Database) (o : Tables) → HoldsBoth vid c (moved o) (bare o) → Holds c (bare o)
@@ -63,6 +65,8 @@ third_ends vid c o has = record {
     petitions = has.rows.petitions;
     digests = has.rows.digests;
     reasons = has.rows.reasons;
+    opened = has.rows.opened;
+    closed = has.rows.closed;
   };
 }
 
@@ -72,12 +76,12 @@ meta_by version vid name = record { version = version; vendor = vid; name = name
 
 -- inserting the founding vendor and the row of meta gives the same values
 pub same_values : (db : Database) (t : Tables) (h : History) → AreRecords h t → HasOneVendor t → (meta : Meta) → meta ≡ at_version 2 (meta_of h)
-    → Holds db (record (with_version 2 t) { vendors = insert_by vendor_key [] (record { vid = meta.vendor; name = meta.name }); metas = insert_by meta_key (map (at_version 2) t.metas) (meta_by 4 meta.vendor meta.name); digests = []; reasons = [] }) → Holds db (undigested t)
+    → Holds db (record (with_version 2 t) { vendors = insert_by vendor_key [] (record { vid = meta.vendor; name = meta.name }); metas = insert_by meta_key (map (at_version 2) t.metas) (meta_by 5 meta.vendor meta.name); digests = []; reasons = []; opened = []; closed = [] }) → Holds db (undigested t)
 same_values db t h had one meta is holds =
-    let metas : insert_by meta_key (map (at_version 2) t.metas) (meta_by 4 meta.vendor meta.name) ≡ t.metas =
-    ap (λ l. insert_by meta_key (map (at_version 2) l) (meta_by 4 meta.vendor meta.name)) had.metas ∙ ap (λ (m : Meta). meta_by 4 m.vendor m.name ∷ []) is ∙ sym had.metas in
+    let metas : insert_by meta_key (map (at_version 2) t.metas) (meta_by 5 meta.vendor meta.name) ≡ t.metas =
+    ap (λ l. insert_by meta_key (map (at_version 2) l) (meta_by 5 meta.vendor meta.name)) had.metas ∙ ap (λ (m : Meta). meta_by 5 m.vendor m.name ∷ []) is ∙ sym had.metas in
     let only : (record { vid = meta.vendor; name = meta.name } ∷ []) ≡ t.vendors = ap (λ (m : Meta). vendor_in m ∷ []) is ∙ sym (one ∙ ap (map vendor_in) had.metas) in
-    subst (λ vs. Holds db (record t { vendors = vs; digests = []; reasons = [] })) only (subst (λ ms. Holds db (record t { vendors = record { vid = meta.vendor; name = meta.name } ∷ []; metas = ms; digests = []; reasons = [] })) metas holds)
+    subst (λ vs. Holds db (record t { vendors = vs; digests = []; reasons = []; opened = []; closed = [] })) only (subst (λ ms. Holds db (record t { vendors = record { vid = meta.vendor; name = meta.name } ∷ []; metas = ms; digests = []; reasons = []; opened = []; closed = [] })) metas holds)
 
 -- a history held in the second schema is in a store marked with version 2
 pub marked_second : (db : Database) (h : History) → HoldsOf 2 db h → (t : Tables) × IsSecond h.founding.vendor db t × AreRecords h t × IsRecorded h t
@@ -85,17 +89,18 @@ unfolding HoldsOf
 marked_second db h (t, inl first, had, kept) = absurd (let e = first.0 in omega (arith, e))
 marked_second db h (t, inr (inl second), had, kept) = (t, second.1, had, kept)
 marked_second db h (t, inr (inr (inl third)), had, kept) = absurd (let e = third.0 in omega (arith, e))
-marked_second db h (t, inr (inr (inr fourth)), had, kept) = absurd (let e = fourth.0 in omega (arith, e))
+marked_second db h (t, inr (inr (inr (inl fourth))), had, kept) = absurd (let e = fourth.0 in omega (arith, e))
+marked_second db h (t, inr (inr (inr (inr fifth))), had, kept) = absurd (let e = fifth.0 in omega (arith, e))
 
 pub as_marked : (db : Database) (h : History) (t : Tables) → IsSecond h.founding.vendor db t → AreRecords h t → IsMarked 2 db (record { vid = h.founding.vendor; tables = with_version 2 t; numbers = [] })
 as_marked db h t second had = record { held = second.holds; meta = at_version 2 (meta_of h); only = ap (map (at_version 2)) had.metas; named = refl }
 
 -- the calls of the step in order
 module _ (a s1 s2 s3 s4 s5 : State) (meta : Meta) (one : (x : Second) → IsMarked 2 a.now x → IsUnchanged a s1 × (x.tables.metas ≡ meta ∷ []))
-    (two : s1.now.schema ≡ schema_2 → HasMore schema_2 (vendors ∷ spans3 ∷ entries3 ∷ petitions3 ∷ digests4 ∷ reasons4 ∷ []) s1.now s2.now)
+    (two : s1.now.schema ≡ schema_2 → HasMore schema_2 (vendors ∷ spans3 ∷ entries3 ∷ petitions3 ∷ digests4 ∷ reasons4 ∷ opened5 ∷ closed5 ∷ []) s1.now s2.now)
     (three : (o : Tables) → HoldsBoth meta.vendor s2.now o (emptied o) → HoldsBoth meta.vendor s3.now (moved o) (bare o))
     (four : (t : Tables) → Holds s3.now t → Holds s4.now (record t { vendors = insert_by vendor_key t.vendors (record { vid = meta.vendor; name = meta.name }) }))
-    (five : (t : Tables) → Holds s4.now t → Holds s5.now (record t { metas = insert_by meta_key t.metas (meta_by 4 meta.vendor meta.name) })) where
+    (five : (t : Tables) → Holds s4.now t → Holds s5.now (record t { metas = insert_by meta_key t.metas (meta_by 5 meta.vendor meta.name) })) where
   -- the row of meta is the history's
   meta_is : (h : History) (t : Tables) → IsSecond h.founding.vendor a.now t → AreRecords h t → meta ≡ at_version 2 (meta_of h)
   meta_is h t second had =

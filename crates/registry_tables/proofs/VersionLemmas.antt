@@ -3,8 +3,8 @@ use Rattle.std.proofs.Common.{inl, inr, ℕ, IsTrue, sym, subst}
 use Rattle.sqlite.specs.Effect.{Database}
 use Rattle.sqlite.specs.State.{State, IsLive}
 use Rattle.sqlite_catalog.specs.Listing.{IsSound}
-use Rattle.registry_schema.proofs.TextLemmas.{schema_1_is, schema_2_is, schema_3_is, schema_4_is}
-use Rattle.registry_schema.proofs.VersionLemmas.{has_schema_1, has_schema_2, has_schema_3, has_schema_4}
+use Rattle.registry_schema.proofs.TextLemmas.{schema_1_is, schema_2_is, schema_3_is, schema_4_is, schema_5_is}
+use Rattle.registry_schema.proofs.VersionLemmas.{has_schema_1, has_schema_2, has_schema_3, has_schema_4, has_schema_5}
 use Rattle.registry_rules.specs.History.{History}
 use Rattle.registry_rows.specs.Tables.{Tables}
 use Rattle.registry_tables.specs.Rows.{HasValues, Rows}
@@ -37,14 +37,17 @@ module _ (vid version : ℕ) (t : Tables) where
       holds = record { schema = has_schema_3 s live is_open has.has; sound = subst (λ x. IsSound x s.now.trees) schema_3_is has.has; rows = has.rows };
     },
   )))
-  in_values s live is_open (inr (inr (inr (is, has)))) =
-      inr (inr (inr (is, record { schema = has_schema_4 s live is_open has.has; sound = subst (λ x. IsSound x s.now.trees) schema_4_is has.has; rows = has.rows })))
+  in_values s live is_open (inr (inr (inr (inl (is, has))))) =
+      inr (inr (inr (inl (is, record { holds = record { schema = has_schema_4 s live is_open has.has; sound = subst (λ x. IsSound x s.now.trees) schema_4_is has.has; rows = has.rows } }))))
+  in_values s live is_open (inr (inr (inr (inr (is, has))))) =
+      inr (inr (inr (inr (is, record { schema = has_schema_5 s live is_open has.has; sound = subst (λ x. IsSound x s.now.trees) schema_5_is has.has; rows = has.rows }))))
 
   out_values : (db : Database) → HoldsValues version vid db t → HasValues version vid db.trees t
   out_values db (inl (is, held)) = inl (is, record { has = subst (λ x. IsSound x db.trees) (sym schema_1_is) held.holds.sound; one = held.one; older = held.older; numbers = held.numbers; rows = held.holds.rows; reserved = held.reserved })
   out_values db (inr (inl (is, held))) = inr (inl (is, record { has = subst (λ x. IsSound x db.trees) (sym schema_2_is) held.holds.sound; one = held.one; older = held.older; rows = held.holds.rows }))
   out_values db (inr (inr (inl (is, held)))) = inr (inr (inl (is, record { has = subst (λ x. IsSound x db.trees) (sym schema_3_is) held.holds.sound; older = held.older; rows = held.holds.rows })))
-  out_values db (inr (inr (inr (is, held)))) = inr (inr (inr (is, record { has = subst (λ x. IsSound x db.trees) (sym schema_4_is) held.sound; rows = held.rows })))
+  out_values db (inr (inr (inr (inl (is, held))))) = inr (inr (inr (inl (is, record { has = subst (λ x. IsSound x db.trees) (sym schema_4_is) held.holds.sound; rows = held.holds.rows }))))
+  out_values db (inr (inr (inr (inr (is, held))))) = inr (inr (inr (inr (is, record { has = subst (λ x. IsSound x db.trees) (sym schema_5_is) held.sound; rows = held.rows }))))
 
 pub enters : (version : ℕ) (s : State) (h : History) → IsLive s → IsTrue s.is_open → Rows version s.now.trees h → HoldsOf version s.now h
 unfolding Rows HoldsOf

@@ -11,3 +11,4 @@ pub mod FirstLicences
 pub mod Known
 pub mod Head
 pub mod Written
+pub mod Times

@@ -22,16 +22,16 @@ pub record IsMarked (version : ℕ) (db : Database) (x : Second) : Type 0 where
   pub only : x.tables.metas ≡ meta ∷ []
   pub named : meta.version ≡ version
 
--- values that a database of the newest schema holds while it is migrated from the third
-pub record Third : Type 0 where
+-- values that a database of the newest schema holds while it is migrated from the third or the fourth
+pub record Raised : Type 0 where
   pub tables : Tables
   pub meta : Meta
 
--- the one row of meta still names the third version
-pub record IsMarkedThird (db : Database) (x : Third) : Type 0 where
+-- the one row of meta still names this version
+pub record IsMarkedNewest (version : ℕ) (db : Database) (x : Raised) : Type 0 where
   pub held : Holds db x.tables
   pub only : x.tables.metas ≡ x.meta ∷ []
-  pub named : x.meta.version ≡ 3
+  pub named : x.meta.version ≡ version
 
 -- the version to which a step takes a store of this one
 abbrev pub raised_to : ℕ → ℕ
@@ -62,7 +62,7 @@ CommitsLater old db = IsTrue old.is_open × ((h : History) (version : ℕ) → R
 
 -- the names of the tables are those of an older schema
 abbrev pub IsNamedOlder : State → Type 0
-IsNamedOlder s = (version_named s.now.schema.tables ≡ Some 1) ⊎ ((version_named s.now.schema.tables ≡ Some 2) ⊎ (version_named s.now.schema.tables ≡ Some 3))
+IsNamedOlder s = (version_named s.now.schema.tables ≡ Some 1) ⊎ ((version_named s.now.schema.tables ≡ Some 2) ⊎ ((version_named s.now.schema.tables ≡ Some 3) ⊎ (version_named s.now.schema.tables ≡ Some 4)))
 
 -- a connection is open now if and only if it was open before
 abbrev pub StaysOpen : State → State → Type 0
@@ -74,14 +74,14 @@ IsAtRest version s h = IsTrue s.is_open → (s.now ≡ s.committed) × Rows vers
 
 -- the tables that the later schemas add, still empty
 abbrev pub emptied : Tables → Tables
-emptied t = record t { vendors = []; spans = []; entries = []; petitions = []; digests = []; reasons = [] }
+emptied t = record t { vendors = []; spans = []; entries = []; petitions = []; digests = []; reasons = []; opened = []; closed = [] }
 
 abbrev pub moved : Tables → Tables
 moved o = record o { spans = []; entries = []; petitions = [] }
 
 -- the transaction goes on, and the rows of the second schema's tables move to those of the third
 abbrev pub MovesAll : ℕ → State → State → Type 0
-MovesAll vid old new = GoesOn old new × ((o : Tables) → HoldsBoth vid old.now o (emptied o) → HoldsBoth vid new.now (moved o) (record o { vendors = []; digests = []; reasons = [] }))
+MovesAll vid old new = GoesOn old new × ((o : Tables) → HoldsBoth vid old.now o (emptied o) → HoldsBoth vid new.now (moved o) (record o { vendors = []; digests = []; reasons = []; opened = []; closed = [] }))
 
 -- the connection is open and at rest, and its tables satisfy P
 abbrev pub IsMadeBy : (Trees → Type 0) → State → Type 0

@@ -11,7 +11,7 @@ use Rattle.usbnum_core.specs.declared.number.Span.{Span}
 use Rattle.registry_rules.specs.History.{History}
 use Rattle.registry_rules.specs.Texts.{IsCurators}
 use Rattle.registry_rules.specs.declared.founding.Founding.{Founding}
-use Rattle.registry_rules.specs.Query.{org_of, petition_of, reason_of, vendor_of, is_reserved_by_order, is_licence}
+use Rattle.registry_rules.specs.Query.{org_of, petition_of, reason_of, opened_at, closed_at, vendor_of, is_reserved_by_order, is_licence}
 use Rattle.registry_rules.specs.Records.{entry_of}
 use Rattle.registry_rules.specs.Verdict.{kept_under}
 use Rattle.registry_rules.specs.Orders.{canonical_form, IsOrder}
@@ -27,15 +27,15 @@ use Rattle.registry_wire.specs.Record.{accepted_line}
 use Rattle.registry_rows.specs.declared.digests.DigestRow.{DigestRow}
 use Rattle.registry_rows.specs.declared.kept.KeptRow.{KeptRow}
 use Rattle.registry_rows.specs.declared.meta.Meta.{Meta}
-use Rattle.registry_rows.specs.Rows.{is_named, is_called, is_kept_under, is_of, is_numbered, is_reason_of}
+use Rattle.registry_rows.specs.Rows.{is_named, is_called, is_kept_under, is_of, is_numbered, is_reason_of, is_time_of}
 use Rattle.registry_rows.specs.Tables.{Tables, HasRows, Holds}
 use Rattle.table_laws.specs.Making.{HasTables}
-use Rattle.registry_schema.specs.Texts.{texts_1, texts_2, texts_3}
-use Rattle.registry_old_rows.specs.Old.{AreFirst, AreSecond, AreThird, IsOlder, with_version, HasOneVendor, is_listed}
+use Rattle.registry_schema.specs.Texts.{texts_1, texts_2, texts_3, texts_4}
+use Rattle.registry_old_rows.specs.Old.{AreFirst, AreSecond, AreThird, AreFourth, IsOlder, with_version, HasOneVendor, is_listed}
 
 -- the newest schema
 abbrev pub newest : ℕ
-newest = 4
+newest = 5
 
 -- no two of the values are the same by this test
 abbrev pub NoTwo : {X : Type 0} → (X → X → Bool) → List X → Type 0
@@ -82,6 +82,10 @@ digest_rows_from id before (accepted ∷ others) =
 abbrev pub digest_rows : History → List (ℕ × DigestRow)
 digest_rows h = (0, record { time = None; digest = founding_digest h.founding }) ∷ digest_rows_from 1 (founding_digest h.founding) (accepted_of h.deeds)
 
+-- each petition finds its time
+abbrev pub AreTimes : (ℕ → Option (List ℕ)) → List (ℕ × List ℕ) → Type 0
+AreTimes at times = (i : ℕ) → find (is_time_of i) times ≡ option_map (λ time. (i, time)) (at i)
+
 -- each key finds what the history says, and no key has two rows
 module _ (h : History) where
   pub record AreCurators (names : List (List ℕ)) : Type 0 where
@@ -111,6 +115,10 @@ module _ (h : History) where
   abbrev pub AreReasons : List (ℕ × List ℕ) → Type 0
   AreReasons reasons = (i : ℕ) → find (is_reason_of i) reasons ≡ option_map (λ reason. (i, reason)) (reason_of h i)
 
+  pub record AreTimesOf (opened closed : List (ℕ × List ℕ)) : Type 0 where
+    pub opened_then : AreTimes (opened_at h) opened
+    pub closed_then : AreTimes (closed_at h) closed
+
   abbrev pub AreVendors : List Vendor → Type 0
   AreVendors vendors = (vid : ℕ) → find (λ vendor. nat_eq vendor.vid vid) vendors ≡ vendor_of h vid
 
@@ -138,11 +146,13 @@ pub record AreRecords (h : History) (t : Tables) : Type 0 where
   pub petitions : ArePetitions h t.petitions
   pub reasons : AreReasons h t.reasons
 
--- The tables of the record hold the rows of the history: the accepted requests with their replies, and the digests with their
--- times. The digests of a legal history are said if its requests have valid fields, as the Rust types guarantee of each.
+-- The tables of the record hold the rows of the history: the accepted requests with their replies, the digests with their
+-- times, and the times of petitions. The digests and the times of a legal history are said if its requests have valid fields, as
+-- the Rust types guarantee of each.
 pub record IsRecorded (h : History) (t : Tables) : Type 0 where
   pub kept : AreKeptReplies h t.kept
   pub digests : Legal h → AreValid h.deeds → t.digests ≡ digest_rows h
+  pub times : Legal h → AreValid h.deeds → AreTimesOf h t.opened t.closed
 
 -- ---- each schema
 
@@ -173,13 +183,19 @@ pub record HasThird (db : Trees) (t : Tables) : Type 0 where
   pub older : IsOlder t
   pub rows : AreThird db (with_version 3 t)
 
--- The trees have exactly the tables of this schema version, with these values. Only the newest has digests, times and reasons.
+-- The same for the fourth schema, which has no times of petitions: those of the values are the history's all the same.
+pub record HasFourth (db : Trees) (t : Tables) : Type 0 where
+  pub has : HasTables texts_4 db
+  pub rows : AreFourth db (with_version 4 t)
+
+-- The trees have exactly the tables of this schema version, with these values. Only the last two have digests and reasons, and
+-- only the newest has the times of petitions.
 abbrev pub HasValues : ℕ → ℕ → Trees → Tables → Type 0
-HasValues version vid db t = ((version ≡ 1) × HasFirst vid db t) ⊎ (((version ≡ 2) × HasSecond vid db t) ⊎ (((version ≡ 3) × HasThird db t) ⊎ ((version ≡ newest) × HasRows db t)))
+HasValues version vid db t = ((version ≡ 1) × HasFirst vid db t) ⊎ (((version ≡ 2) × HasSecond vid db t) ⊎ (((version ≡ 3) × HasThird db t) ⊎ (((version ≡ 4) × HasFourth db t) ⊎ ((version ≡ newest) × HasRows db t))))
 
 -- The trees have exactly the tables of this schema version, and hold the rows of the history and no others. The rowids are said
 -- of `kept` and `digests4` alone, and the order of the rows of these and of `fixed`; in the other tables any will do. Below the newest version a
--- store is still to be migrated; a history with a time or a reason has no rows there, and below the third version one with a
+-- store is still to be migrated; below the fourth a history with a time or a reason has no rows, and below the third one with a
 -- second vendor has none.
 unfoldable pub Rows : ℕ → Trees → History → Type 0
 Rows version db h = (t : Tables) × HasValues version h.founding.vendor db t × AreRecords h t × IsRecorded h t

@@ -59,7 +59,7 @@ fn time_at(digests: &[(u32, DigestRow)], at: usize) -> Result<Option<Time>, Tabl
 }
 
 // The accepted requests of the rows, in their order, with the times of the digests.
-fn accepted_from(
+pub(crate) fn accepted_from(
     alloc: Global,
     rows: &[KeptRow],
     digests: &[(u32, DigestRow)],

@@ -51,7 +51,7 @@ pub fn write_founding<S: Alter>(
     ensures writes { WritesTables S.Store tx.old.conn tx.new.conn result (Changes (with_founding founding.now)) }
     ensures valid { OnOk result (IsFounding founding.now) }
 {
-    put_meta(tx, 4, founding.vendor, &founding.name)?;
+    put_meta(tx, 5, founding.vendor, &founding.name)?;
     add_curators(tx, founding.curators.as_slice())?;
     add_licences(tx, founding.licences.as_slice())?;
     add_fixed(tx, founding.fixed.parts())?;

@@ -12,22 +12,22 @@ ghost use Rattle.registry_tables.specs.Raising.{Raises, CommitsStep, IsMadeBy};
 use crate::beginning::begin;
 use crate::committing::commit;
 use crate::digests::fill_digests;
-use crate::marked::third_meta;
+use crate::marked::newest_meta;
 use registry_rows::put_meta;
-use registry_schema::{TableFault, add_fourth};
+use registry_schema::{TableFault, add_fourth_and_fifth};
 use sqlite::{Alter, Connection, Transaction};
 use std::alloc::Global;
 
-// Creates the tables of the fourth schema, and fills the digests. No request has a time.
+// Creates the tables of the later schemas, and fills the digests. No request has a time.
 fn raise_fourth<S: Alter>(alloc: Global, tx: &mut Transaction<'_, S>) -> Result<(), TableFault>
     ensures same_reference { tx.new.conn.ghost_name ≡ tx.old.conn.ghost_name }
     ensures raised { HasCleanDisk (state S.Store tx.new.conn.now) → IsTrue (state S.Store tx.old.conn.now).in_transaction → Raises 3 (state S.Store tx.old.conn.now) (state S.Store tx.new.conn.now) result }
     ensures named { HasCleanDisk (state S.Store tx.new.conn.now) → IsTrue (state S.Store tx.old.conn.now).in_transaction → OnOk result (SaysThird (state S.Store tx.old.conn.now).now) }
     ensures survives { CommitsNothing (state S.Store tx.old.conn.now) (state S.Store tx.new.conn.now) }
 {
-    add_fourth(tx)?;
-    let meta = third_meta(alloc, tx)?;
-    put_meta(tx, 4, meta.vendor, &meta.name)?;
+    add_fourth_and_fifth(tx)?;
+    let meta = newest_meta(alloc, tx, 3)?;
+    put_meta(tx, 5, meta.vendor, &meta.name)?;
     fill_digests(alloc, tx, meta.vendor, &meta.name)
 }
 

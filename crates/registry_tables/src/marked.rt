@@ -6,7 +6,7 @@ ghost use Rattle.sqlite.specs.Held.{state};
 ghost use Rattle.registry_rows.specs.Steps.{Reads};
 ghost use Rattle.registry_rows.specs.Tables.{Tables, Holds};
 ghost use Rattle.registry_tables.specs.Known.{SaysVersion, names_version};
-ghost use Rattle.registry_tables.specs.Raising.{IsMarked, IsMarkedThird};
+ghost use Rattle.registry_tables.specs.Raising.{IsMarked, IsMarkedNewest};
 
 use registry_old_rows::list_old_metas;
 use registry_rows::{Meta, list_metas};
@@ -40,19 +40,20 @@ pub(crate) fn old_meta<S: Alter>(
     }
 }
 
-/// Returns the row of `meta`, if it names the third version, once the tables of the newest schema
-/// are there.
-pub(crate) fn third_meta<S: Alter>(
+/// Returns the row of `meta`, if it names this version, once the tables of the newest schema are
+/// there.
+pub(crate) fn newest_meta<S: Alter>(
     alloc: Global,
     tx: &mut Transaction<'_, S>,
+    version: u32,
 ) -> Result<Meta, TableFault>
     ensures named { HasCleanDisk (state S.Store tx.new.conn.now) → IsTrue (state S.Store tx.old.conn.now).in_transaction
-        → OnOk result ((t : Tables) → Holds (state S.Store tx.old.conn.now).now t → names_version 3 t ≡ true) }
-    ensures reads { Reads S.Store tx.old.conn tx.new.conn result IsMarkedThird (λ x meta. x.tables.metas ≡ meta ∷ []) }
+        → OnOk result ((t : Tables) → Holds (state S.Store tx.old.conn.now).now t → names_version version t ≡ true) }
+    ensures reads { Reads S.Store tx.old.conn tx.new.conn result (IsMarkedNewest version) (λ x meta. x.tables.metas ≡ meta ∷ []) }
 {
     let mut metas = list_metas(alloc, tx)?;
     match metas.pop() {
-        Some(meta) => of_version(meta, 3),
+        Some(row) => of_version(row, version),
         None => Err(TableFault::Foreign),
     }
 }

@@ -5,7 +5,7 @@ ghost use Rattle.sqlite.specs.State.{HasCleanDisk, Survives};
 ghost use Rattle.sqlite.specs.Held.{state};
 ghost use Rattle.table_laws.specs.Inside.{CommitsNothing, GoesOn};
 ghost use Rattle.table_laws.specs.Making.{HasTables};
-ghost use Rattle.registry_schema.specs.Texts.{texts_4};
+ghost use Rattle.registry_schema.specs.Texts.{texts_5};
 ghost use Rattle.registry_schema.specs.Steps.{WritesTables};
 ghost use Rattle.registry_rules.specs.History.{History};
 ghost use Rattle.registry_tables.specs.Known.{SaysFirst, IsNamed, IsKnownOlder};
@@ -13,6 +13,7 @@ ghost use Rattle.registry_tables.specs.Rows.{newest, Rows};
 ghost use Rattle.registry_tables.specs.Raising.{IsMadeBy, CommitsTwo, EndsTwo, CommitsLater, IsAtRest, IsNamedOlder, StaysOpen};
 
 use crate::beginning::begin;
+use crate::fifth::fourth_to_newest;
 use crate::fourth::third_to_newest;
 use crate::second::first_to_second;
 use crate::third::second_to_newest;
@@ -70,7 +71,7 @@ pub fn migrate<S: Alter>(alloc: Global, conn: &mut Connection<S>) -> Result<(), 
         × ((h : History) (version : ℕ) → IsAtRest version (state S.Store conn.old) h → IsAtRest newest (state S.Store conn.new) h)) }
     // Only tables with the names of a schema are accepted, and in an older one `meta` says its version.
     ensures known { HasCleanDisk (state S.Store conn.new) → OnOk result (IsKnownOlder (state S.Store conn.old).now ⊎ (IsNamed newest (state S.Store conn.old).now × (conn.new ≡ conn.old))) }
-    ensures newest { IsTrue (state S.Store conn.old).is_open → HasTables texts_4 (state S.Store conn.old).now.trees → (result ≡ Ok _) × (conn.new ≡ conn.old) }
+    ensures newest { IsTrue (state S.Store conn.old).is_open → HasTables texts_5 (state S.Store conn.old).now.trees → (result ≡ Ok _) × (conn.new ≡ conn.old) }
     ensures foreign { HasCleanDisk (state S.Store conn.new) → result ≡ Err TableFault.Foreign → IsTrue (state S.Store conn.old).is_open × ((h : History) (version : ℕ) → ¬ Rows version (state S.Store conn.old).now.trees h) }
     ensures survives { Survives (state S.Store conn.old) (state S.Store conn.new) (CommitsLater (state S.Store conn.old)) }
     ensures untouched { IsNamedOlder (state S.Store conn.old) ⊎ CommitsNothing (state S.Store conn.old) (state S.Store conn.new) }
@@ -83,6 +84,8 @@ pub fn migrate<S: Alter>(alloc: Global, conn: &mut Connection<S>) -> Result<(), 
     } else if version == Some(3) {
         third_to_newest(alloc, conn)
     } else if version == Some(4) {
+        fourth_to_newest(alloc, conn)
+    } else if version == Some(5) {
         Ok(())
     } else {
         Err(unknown(conn))

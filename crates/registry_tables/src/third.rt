@@ -18,7 +18,7 @@ use registry_old_rows::{
     copy_entries, copy_petitions, copy_spans, empty_entries, empty_petitions, empty_spans,
 };
 use registry_rows::{put_meta, put_vendor};
-use registry_schema::{TableFault, add_third_and_fourth};
+use registry_schema::{TableFault, add_third_to_fifth};
 use sqlite::{Alter, Connection, Transaction};
 use std::alloc::Global;
 use usbnum_core::Vid;
@@ -44,10 +44,10 @@ fn raise_third<S: Alter>(alloc: Global, tx: &mut Transaction<'_, S>) -> Result<(
     ensures survives { CommitsNothing (state S.Store tx.old.conn.now) (state S.Store tx.new.conn.now) }
 {
     let meta = old_meta(alloc, tx, 2)?;
-    add_third_and_fourth(tx)?;
+    add_third_to_fifth(tx)?;
     move_rows(tx, meta.vendor)?;
     put_vendor(tx, meta.vendor, &meta.name)?;
-    put_meta(tx, 4, meta.vendor, &meta.name)?;
+    put_meta(tx, 5, meta.vendor, &meta.name)?;
     fill_digests(alloc, tx, meta.vendor, &meta.name)
 }
 

@@ -17,9 +17,9 @@ const STEPS: &[Step<'static>] = &[
 
 const STATES: &str = "true false None
 Ok(())
-false true Some(4)
+false true Some(5)
 Err(Store)
-false true Some(4)
+false true Some(5)
 opened
 Foreign
 ";

@@ -44,6 +44,8 @@ const QUERIES: &[&str] = &[
     "SELECT * FROM petitions3 ORDER BY id",
     "SELECT * FROM digests4",
     "SELECT * FROM reasons4",
+    "SELECT * FROM opened5",
+    "SELECT * FROM closed5",
 ];
 
 const STEPS: &[Step<'static>] = &[
@@ -61,7 +63,7 @@ const STEPS: &[Step<'static>] = &[
 ];
 
 // The rows of all tables, then the lists, then the totals.
-const ANSWERS: &str = r#"1|4|4617|InterBiometrics|
+const ANSWERS: &str = r#"1|5|4617|InterBiometrics|
 cora|
 BSD|
 MIT|

@@ -22,6 +22,8 @@ const STEPS: &[Step<'static>] = &[
         "withdrawn petition 1",
     ),
     Step::Ask(&["SELECT * FROM kept", "SELECT * FROM digests4"]),
+    Step::Times(1),
+    Step::Times(2),
     Step::Head,
     Step::Facts(Asked::Withdraw("ann")),
     Step::Facts(Asked::Withdraw("bob")),
@@ -36,6 +38,8 @@ const FACTS: &str =
 ann|k1|"withdraw\t1"|withdrawn petition 1|
 0|NULL|9e6832a51938bee00cdead003c584a45e8ebac8cb1c1127cfab0f76fa44d2e34|
 1|2026-11-29T12:00:00Z|1c3d47ac1989af998314f42f1e693bc8118697e3ca246a0a1bcd1d6e6ad32e84|
+PetitionTimes { opened: None, closed: Some("2026-11-29T12:00:00Z") }
+PetitionTimes { opened: None, closed: None }
 Head { count: 1, digest: "1c3d47ac1989af998314f42f1e693bc8118697e3ca246a0a1bcd1d6e6ad32e84", time: Some("2026-11-29T12:00:00Z") }
 Some("withdrawn petition 1") Some("Acme") Some(Granted(Pid { number: 17 }))
 []

@@ -7,7 +7,10 @@ use std::test::Fail;
 
 // From the newest schema to the third, from there to the second, and from there to the first, where
 // only the numbers 2000 to 20ff are reserved.
-const TO_THIRD: &str = "DROP TABLE reasons4; DROP TABLE digests4; UPDATE meta SET version = 3";
+const TO_FOURTH: &str = "DROP TABLE closed5; DROP TABLE opened5; UPDATE meta SET version = 4";
+
+const TO_THIRD: &str =
+    "DROP TABLE closed5; DROP TABLE opened5; DROP TABLE reasons4; DROP TABLE digests4; UPDATE meta SET version = 3";
 
 const TO_SECOND: &str =
     "INSERT INTO entries SELECT pid, org, held, title, licence, site, source FROM entries3 ORDER BY pid;
@@ -26,6 +29,17 @@ const KEPT: &str =
     "INSERT INTO kept VALUES ('ann', 'k1', x'656E726F6C0961636D650941636D650968747470733A2F2F61636D652E6578616D706C652F', 'enrolled acme');
 INSERT INTO digests4 VALUES (1, NULL, '7179f30a8db47e0bfe9b8b707f675bc5da8fec47d5dfca9801345b1aa516e2b6')";
 
+// Petition 1 was asked for at a time, and granted at another; petition 2 was asked for at none.
+const TIMED: &str =
+    "INSERT INTO kept VALUES ('ann', 'k2', x'61736B0961636D65092D0950726F6265094D49540968747470733A2F2F61636D652E6578616D706C652F0968747470733A2F2F61636D652E6578616D706C652F', 'petition 1');
+INSERT INTO kept VALUES ('ann', 'k3', x'61736B0961636D6509303031320950726F6265094D49540968747470733A2F2F61636D652E6578616D706C652F0968747470733A2F2F61636D652E6578616D706C652F', 'petition 2');
+INSERT INTO kept VALUES ('cora', 'k4', x'6772616E740931092D', 'granted 0011 to acme by petition 1');
+INSERT INTO digests4 VALUES (2, '2026-11-29T12:00:00Z', printf('%064d', 2));
+INSERT INTO digests4 VALUES (3, NULL, printf('%064d', 3));
+INSERT INTO digests4 VALUES (4, '2026-11-29T13:30:00Z', printf('%064d', 4))";
+
+const TIMES: &[&str] = &["SELECT * FROM opened5", "SELECT * FROM closed5"];
+
 const QUERIES: &[&str] = &[
     "SELECT * FROM meta ORDER BY id",
     "SELECT * FROM curators ORDER BY name",
@@ -39,6 +53,8 @@ const QUERIES: &[&str] = &[
     "SELECT * FROM petitions3 ORDER BY id",
     "SELECT * FROM digests4 ORDER BY id",
     "SELECT * FROM reasons4",
+    "SELECT * FROM opened5",
+    "SELECT * FROM closed5",
     "SELECT * FROM petitions",
     "SELECT * FROM entries",
     "SELECT * FROM reserved",
@@ -46,7 +62,7 @@ const QUERIES: &[&str] = &[
 ];
 
 // The rows of all tables; those that the third schema replaces are empty.
-const ROWS: &str = "1|4|4617|InterBiometrics|
+const ROWS: &str = "1|5|4617|InterBiometrics|
 cora|
 MIT|
 1|16|
@@ -83,11 +99,15 @@ const RAISED: &[Step<'static>] = &[
     Step::Open,
 ];
 
-const TOLD: &str = "Ok(())\nSome(4)\n";
+const TOLD: &str = "Ok(())\nSome(5)\n";
 
 const LOWERED: &[Case<'static>] = &[
     (
         &[STORE, &[Step::Run(KEPT)], RAISED],
+        &["Some(5)\n", TOLD, ROWS, "opened\n"],
+    ),
+    (
+        &[STORE, &[Step::Run(KEPT), Step::Run(TO_FOURTH)], RAISED],
         &["Some(4)\n", TOLD, ROWS, "opened\n"],
     ),
     (
@@ -120,6 +140,32 @@ const LOWERED: &[Case<'static>] = &[
 #[test]
 fn a_lowered_store_comes_up_again(rt: HostRuntime) -> Result<(), Fail> {
     check(&rt, LOWERED)
+}
+
+// Only the step from the fourth schema has times to take from the record.
+const DATED: &[Case<'static>] = &[(
+    &[
+        STORE,
+        &[
+            Step::Run(KEPT),
+            Step::Run(TIMED),
+            Step::Run(TO_FOURTH),
+            Step::Migrate,
+            Step::Ask(TIMES),
+            Step::Times(1),
+            Step::Times(2),
+        ],
+    ],
+    &[
+        "Ok(())\n1|2026-11-29T12:00:00Z|\n1|2026-11-29T13:30:00Z|\n",
+        "PetitionTimes { opened: Some(\"2026-11-29T12:00:00Z\"), closed: Some(\"2026-11-29T13:30:00Z\") }\n",
+        "PetitionTimes { opened: None, closed: None }\n",
+    ],
+)];
+
+#[test]
+fn a_migration_takes_the_times_from_the_record(rt: HostRuntime) -> Result<(), Fail> {
+    check(&rt, DATED)
 }
 
 const SECOND: &[Step<'static>] = &[Step::Run(TO_THIRD), Step::Run(TO_SECOND)];

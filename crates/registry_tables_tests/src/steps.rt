@@ -1,13 +1,13 @@
 //! The steps of a case: each makes one call on a store, and adds what it returns to a text.
 
 use crate::rows::add_answers;
-use crate::values::{Asked, Put, changes, request_of};
-use registry_rules::{Accepted, Change, Facts, Founding, ReplyText, Request, Totals};
+use crate::values::{Asked, Put, act_of, changes, request_of};
+use registry_rules::{Accepted, Act, Change, Facts, Founding, ReplyText, Request, Totals};
 use registry_schema::{is_empty, version_of};
 use registry_tables::{
-    TableFault, accepted_after, create, facts_for, find_reason, founded_head, has_meta, keep_reply,
-    kept_reply, list_numbers, list_open_petitions, list_orgs, list_petitions, list_vendors,
-    migrate, read_summary, store,
+    TableFault, accepted_after, create, facts_for, find_petition_times, find_reason, founded_head,
+    has_meta, keep_reply, kept_reply, list_numbers, list_open_petitions, list_orgs, list_petitions,
+    list_vendors, migrate, read_summary, store,
 };
 use sqlite::{Alter, Connection, Transaction};
 use std::alloc::Global;
@@ -47,6 +47,8 @@ pub enum Step<'a> {
     Vendors,
     /// Adds the reason of the petition with this number.
     Reason(u32),
+    /// Adds the times of the petition with this number.
+    Times(u32),
     /// Adds the totals.
     Totals,
     /// Adds the head.
@@ -83,6 +85,7 @@ pub fn perform<S: Alter>(
         Step::Numbers => add_numbers(alloc, conn, text),
         Step::Vendors => add_vendors(alloc, conn, text),
         Step::Reason(id) => add_reason(alloc, conn, id, text),
+        Step::Times(id) => add_times(alloc, conn, id, text),
         Step::Totals => add_totals(alloc, conn, given.founding, text),
         Step::Head => add_head(alloc, conn, text),
         Step::Keep(asked, reply) => keep(alloc, conn, asked, reply),
@@ -266,6 +269,21 @@ fn add_reason<S: Alter>(
     }
 }
 
+fn add_times<S: Alter>(
+    alloc: Global,
+    conn: &mut Connection<S>,
+    id: u32,
+    text: &mut String,
+) -> bool {
+    if !conn.is_autocommit() {
+        return false;
+    }
+    match find_petition_times(alloc, conn, id) {
+        Ok(times) => writeln!(text, "{times:?}").is_ok(),
+        Err(_) => false,
+    }
+}
+
 fn add_accepted(accepted: &Accepted, text: &mut String) -> bool {
     let (time, reply) = (&accepted.request.time, accepted.reply.as_str());
     writeln!(text, "{time:?} {reply}").is_ok()
@@ -285,6 +303,7 @@ fn keep_in<S: Alter>(
     alloc: Global,
     conn: &mut Connection<S>,
     request: &Request,
+    act: &Act,
     reply: &ReplyText,
 ) -> bool {
     if !conn.is_autocommit() {
@@ -294,21 +313,22 @@ fn keep_in<S: Alter>(
         return false;
     };
     let mut tx = conn.transaction();
-    match keep_reply(alloc, &mut tx, &summary.head, request, reply) {
+    match keep_reply(alloc, &mut tx, &summary.head, request, act, reply) {
         Ok(_) => tx.commit().is_ok(),
         Err(_) => false,
     }
 }
 
-fn kept(alloc: Global, asked: Asked<'_>, reply: &str) -> Option<(Request, ReplyText)> {
+fn kept(alloc: Global, asked: Asked<'_>, reply: &str) -> Option<(Request, Act, ReplyText)> {
     let request = request_of(alloc, asked)?;
+    let act = act_of(alloc, asked)?;
     let text = String::from_str(alloc, reply).ok()?;
-    Some((request, ReplyText::new(text)))
+    Some((request, act, ReplyText::new(text)))
 }
 
 fn keep<S: Alter>(alloc: Global, conn: &mut Connection<S>, asked: Asked<'_>, reply: &str) -> bool {
     match kept(alloc, asked, reply) {
-        Some((request, reply)) => keep_in(alloc, conn, &request, &reply),
+        Some((request, act, reply)) => keep_in(alloc, conn, &request, &act, &reply),
         None => false,
     }
 }

@@ -1,8 +1,8 @@
 //! The founding, records and requests of the tests, from plain data.
 
 use registry_rules::{
-    Card, Change, Curators, Entry, Founding, Licences, Order, Org, Petition, PetitionState,
-    Request, Return, Terms, Withdraw,
+    Act, Card, Change, Curators, Entry, Founding, Licences, NumberName, Order, Org, Petition,
+    PetitionState, Request, Return, Terms, Withdraw,
 };
 use std::alloc::Global;
 use usbnum_core::{Key, Link, Number, Pid, Slug, Span, Spans, Time, Title, Vid};
@@ -116,15 +116,19 @@ fn put_org(alloc: Global, text: &str) -> Option<Change> {
     }))
 }
 
-fn put_petition(alloc: Global, id: u32, want: Option<u16>, state: State) -> Option<Change> {
-    let petition = Petition {
+fn petition(alloc: Global, want: Option<u16>, state: State) -> Option<Petition> {
+    Some(Petition {
         vid: Vid::new(0x1209)?,
         want: want.and_then(Pid::new),
         state: state_of(state)?,
         org: slug(alloc, "acme")?,
         title: title(alloc, "Probe")?,
         terms: terms(alloc)?,
-    };
+    })
+}
+
+fn put_petition(alloc: Global, id: u32, want: Option<u16>, state: State) -> Option<Change> {
+    let petition = petition(alloc, want, state)?;
     Some(Change::PutPetition { id, petition })
 }
 
@@ -235,5 +239,26 @@ pub fn request_of(alloc: Global, asked: Asked<'_>) -> Option<Request> {
         Asked::Withdraw(caller) => request(alloc, caller, withdraw_order()),
         Asked::WithdrawAt(caller, time) => request_at(alloc, caller, withdraw_order(), time),
         Asked::Return(caller) => request(alloc, caller, return_order()?),
+    }
+}
+
+fn returned() -> Option<Act> {
+    let name = NumberName {
+        number: a_number(0x1209)?,
+        foreign: false,
+    };
+    Some(Act::Returned { name })
+}
+
+fn withdrawn(alloc: Global) -> Option<Act> {
+    let petition = petition(alloc, None, State::Open)?;
+    Some(Act::Withdrawn { id: 1, petition })
+}
+
+/// Returns the effect of the order.
+pub fn act_of(alloc: Global, asked: Asked<'_>) -> Option<Act> {
+    match asked {
+        Asked::Withdraw(_) | Asked::WithdrawAt(_, _) => withdrawn(alloc),
+        Asked::Return(_) => returned(),
     }
 }

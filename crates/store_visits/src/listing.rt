@@ -57,6 +57,8 @@ const QUERIES: [&str; 16] = [
     "SELECT * FROM petitions3 ORDER BY id",
     "SELECT * FROM digests4 ORDER BY id",
     "SELECT * FROM reasons4 ORDER BY petition",
+    "SELECT * FROM opened5 ORDER BY petition",
+    "SELECT * FROM closed5 ORDER BY petition",
     "SELECT * FROM petitions",
     "SELECT * FROM entries",
     "SELECT * FROM reserved",

@@ -2,7 +2,7 @@ use Rattle.std.proofs.Common.{ap, ◌∙◌}
 use Rattle.sqlite_schema.specs.declared.schema.Schema.{Schema}
 use Rattle.sqlite.specs.Held.{state}
 use Rattle.registry_schema.specs.Version.{version_named}
-use Rattle.registry_schema.proofs.VersionLemmas.{named_1, named_2, named_3, named_4}
+use Rattle.registry_schema.proofs.VersionLemmas.{named_1, named_2, named_3, named_4, named_5}
 use Rattle.registry_schema.proofs.version.version_of.Goals as goal
 
 pub returns-clause-named : goal.returns-clause-named
@@ -19,3 +19,6 @@ returns-clause-third g c is_open has = returns-clause-named g c ∙ named_3 (sta
 
 pub returns-clause-fourth : goal.returns-clause-fourth
 returns-clause-fourth g c is_open has = returns-clause-named g c ∙ named_4 (state g.S.Store c.args.conn.now) c.schema.ensures.live is_open has
+
+pub returns-clause-fifth : goal.returns-clause-fifth
+returns-clause-fifth g c is_open has = returns-clause-named g c ∙ named_5 (state g.S.Store c.args.conn.now) c.schema.ensures.live is_open has

@@ -10,24 +10,24 @@ use Rattle.registry_tables.proofs.fourth.raise_fourth.Goals as goal
 pub returns-in_err-meta-clause-raised : goal.returns-in_err-meta-clause-raised
 returns-in_err-meta-clause-raised g c clean inside =
     let a = state g.S.Store c.args.tx.now.conn.now in
-    let s1 = state g.S.Store c.add_fourth.new.tx.conn.now in
-    let new = state g.S.Store c.third_meta.new.tx.conn.now in
-    let c1 : HasCleanDisk s1 = omega (arith, clean, c.third_meta.ensures.reads.survives.clean) in
-    let one = c.in_ok-add_fourth.ensures.writes.done c1 inside in
+    let s1 = state g.S.Store c.add_fourth_and_fifth.new.tx.conn.now in
+    let new = state g.S.Store c.newest_meta.new.tx.conn.now in
+    let c1 : HasCleanDisk s1 = omega (arith, clean, c.newest_meta.ensures.reads.survives.clean) in
+    let one = c.in_ok-add_fourth_and_fifth.ensures.writes.done c1 inside in
     let is : c.from_residual-in_err-meta.result ≡ Err c.in_err-meta.field-0.0 = search rules in
     subst (λ r. Raises 3 a new r) (sym is) (fourth_refused a s1 one.1 new c.in_err-meta.field-0.0 one.0.was_open (c.in_err-meta.ensures.reads.told clean one.0.mode))
 
 pub returns-clause-raised : goal.returns-clause-raised
 returns-clause-raised g c clean inside =
     let a = state g.S.Store c.args.tx.now.conn.now in
-    let s1 = state g.S.Store c.add_fourth.new.tx.conn.now in
-    let s2 = state g.S.Store c.third_meta.new.tx.conn.now in
+    let s1 = state g.S.Store c.add_fourth_and_fifth.new.tx.conn.now in
+    let s2 = state g.S.Store c.newest_meta.new.tx.conn.now in
     let s3 = state g.S.Store c.put_meta.new.tx.conn.now in
     let s4 = state g.S.Store c.fill_digests.new.tx.conn.now in
     let c3 : HasCleanDisk s3 = omega (arith, clean, c.fill_digests.ensures.survives.clean) in
     let c2 : HasCleanDisk s2 = omega (arith, c3, c.put_meta.ensures.writes.survives.clean) in
-    let c1 : HasCleanDisk s1 = omega (arith, c2, c.third_meta.ensures.reads.survives.clean) in
-    let one = c.in_ok-add_fourth.ensures.writes.done c1 inside in
+    let c1 : HasCleanDisk s1 = omega (arith, c2, c.newest_meta.ensures.reads.survives.clean) in
+    let one = c.in_ok-add_fourth_and_fifth.ensures.writes.done c1 inside in
     let two = c.in_ok-meta.ensures.reads.told c2 one.0.mode in
     let three = c.in_ok-put_meta.ensures.writes.done c3 two.0.mode in
     let meta = c.in_ok-meta.meta in
@@ -37,9 +37,9 @@ returns-clause-raised g c clean inside =
 pub returns-clause-named : goal.returns-clause-named
 returns-clause-named g c clean inside =
     let a = state g.S.Store c.args.tx.now.conn.now in
-    let s1 = state g.S.Store c.add_fourth.new.tx.conn.now in
-    let s2 = state g.S.Store c.third_meta.new.tx.conn.now in
+    let s1 = state g.S.Store c.add_fourth_and_fifth.new.tx.conn.now in
+    let s2 = state g.S.Store c.newest_meta.new.tx.conn.now in
     let c2 : HasCleanDisk s2 = omega (arith, clean, c.put_meta.ensures.writes.survives.clean, c.fill_digests.ensures.survives.clean) in
-    let c1 : HasCleanDisk s1 = omega (arith, c2, c.third_meta.ensures.reads.survives.clean) in
-    let one = c.in_ok-add_fourth.ensures.writes.done c1 inside in
+    let c1 : HasCleanDisk s1 = omega (arith, c2, c.newest_meta.ensures.reads.survives.clean) in
+    let one = c.in_ok-add_fourth_and_fifth.ensures.writes.done c1 inside in
     said c.fill_digests.result (third_said a s1 one.1 (c.in_ok-meta.ensures.named c2 one.0.mode))

@@ -18,7 +18,7 @@ pub returns-clause-raised : goal.returns-clause-raised
 returns-clause-raised g c clean inside =
     let a = state g.S.Store c.args.tx.now.conn.now in
     let s1 = state g.S.Store c.old_meta.new.tx.conn.now in
-    let s2 = state g.S.Store c.add_third_and_fourth.new.tx.conn.now in
+    let s2 = state g.S.Store c.add_third_to_fifth.new.tx.conn.now in
     let s3 = state g.S.Store c.move_rows.new.tx.conn.now in
     let s4 = state g.S.Store c.put_vendor.new.tx.conn.now in
     let s5 = state g.S.Store c.put_meta.new.tx.conn.now in
@@ -27,9 +27,9 @@ returns-clause-raised g c clean inside =
     let c4 : HasCleanDisk s4 = omega (arith, c5, c.put_meta.ensures.writes.survives.clean) in
     let c3 : HasCleanDisk s3 = omega (arith, c4, c.put_vendor.ensures.writes.survives.clean) in
     let c2 : HasCleanDisk s2 = omega (arith, c3, c.move_rows.ensures.writes.survives.clean) in
-    let c1 : HasCleanDisk s1 = omega (arith, c2, c.add_third_and_fourth.ensures.writes.survives.clean) in
+    let c1 : HasCleanDisk s1 = omega (arith, c2, c.add_third_to_fifth.ensures.writes.survives.clean) in
     let one = c.in_ok-meta.ensures.reads.told c1 inside in
-    let two = c.in_ok-add_third_and_fourth.ensures.writes.done c2 one.0.mode in
+    let two = c.in_ok-add_third_to_fifth.ensures.writes.done c2 one.0.mode in
     let three = c.in_ok-move_rows.ensures.writes.done c3 two.0.mode in
     let four = c.in_ok-put_vendor.ensures.writes.done c4 three.0.mode in
     let five = c.in_ok-put_meta.ensures.writes.done c5 four.0.mode in
@@ -40,4 +40,4 @@ returns-clause-raised g c clean inside =
 
 pub returns-clause-named : goal.returns-clause-named
 returns-clause-named g c clean inside =
-    said c.fill_digests.result (c.in_ok-meta.ensures.named (omega (arith, clean, c.add_third_and_fourth.ensures.writes.survives.clean, c.move_rows.ensures.writes.survives.clean, c.put_vendor.ensures.writes.survives.clean, c.put_meta.ensures.writes.survives.clean, c.fill_digests.ensures.survives.clean)) inside)
+    said c.fill_digests.result (c.in_ok-meta.ensures.named (omega (arith, clean, c.add_third_to_fifth.ensures.writes.survives.clean, c.move_rows.ensures.writes.survives.clean, c.put_vendor.ensures.writes.survives.clean, c.put_meta.ensures.writes.survives.clean, c.fill_digests.ensures.survives.clean)) inside)

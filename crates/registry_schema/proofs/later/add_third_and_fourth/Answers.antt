@@ -1,6 +1,0 @@
-use Rattle.std.proofs.Common.{refl}
-use Rattle.registry_schema.proofs.StepLemmas.{then_more}
-use Rattle.registry_schema.proofs.later.add_third_and_fourth.Goals as goal
-
-pub returns : goal.returns
-returns g c = record { writes = then_more refl c.in_ok-add_third.ensures.writes c.in_ok-add_fourth.ensures.writes }
