@@ -1,5 +1,48 @@
 //! Laws of lists that are exported, and then read or imported, of the lines of a record, and of
-//! registries whose records begin one log.
+//! registries whose records begin one log. This crate has laws and no code.
+//!
+//! # The lines of a record
+//!
+//! The line that is written for an accepted request is read as that request with its reply, and the
+//! line of a founding as that founding (`reads_accepted`, `reads_founding`). So different ones have
+//! different lines (`has_own_line`, `has_own_founding_line`). The lines of the record of a legal
+//! history are read as its founding and its accepted requests; a new registry with that founding
+//! has the same history after these requests, and gives the same replies (`keeps_whole_history`).
+//! The premises are `IsValidFounding` and `IsAccepted`: texts, numbers and lists are valid, as
+//! their Rust types keep them, and each reply is UTF-8. The digest of a history is made from the
+//! lines of its record, each after the digest of the line before it (`is_digest_of_record`). That
+//! other lines have another digest is not proved.
+//!
+//! What is said of a record has the premise that its requests are valid (`AreValid`). Those of a
+//! new registry are, and acting on requests with valid fields keeps them so (`keeps_valid`). No
+//! clause says that each line that is read has valid fields: the types of the fields do.
+//!
+//! # Registries that share a log
+//!
+//! Registries on several machines may share a log of lines (`shared_log`), if the record of each
+//! begins it (`BeginsWith`). Of two such machines one has the history of the other, or goes on from
+//! it (`have_one_history`); so a number that has an owner on both has the same one
+//! (`have_one_owner`). An accepted request whose line is in the log is in the history of each of
+//! them that has as many lines (`have_each_request`). If the log takes the line of a machine's next
+//! deed under the next number, the record with that deed begins the log from then on, whatever
+//! others append (`begins_with_appended`). No program shares a log yet.
+//!
+//! # Lists that are exported and imported
+//!
+//! The text of an exported list is read back as that list (`reads_as_itself`, `is_read_back`). An
+//! import of the devices of a vendor in a list leaves each of them held for the organisation under
+//! its name, without terms, and all other numbers as they were (`takes_over`). That law has three
+//! premises:
+//!
+//! - `MayImport`: a curator asks, under an unused key; the organisation is enrolled; the registry
+//!   has the vendor; and the devices are at most 8,192.
+//! - `AreTitled`: each code is a product ID, and each name a title.
+//! - `AreFree`: none of these numbers is owned or reserved.
+//!
+//! Under the same premises, take a list in order, as an exported one is, and a registry that lists
+//! everything in it except the devices of the vendor. After their import it has the whole list
+//! (`completes_list`). If another registry exported the list, both then have the same one
+//! (`gives_same_list`).
 #![tactic(auto)]
 
 ghost use Rattle.registry_laws.specs.Exports.{ReadsAsItself, IsReadBack};
