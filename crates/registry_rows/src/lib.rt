@@ -1,4 +1,12 @@
-//! The rows of a registry's store as values, and each SQL statement as a change of them.
+//! The rows of a registry's store as values, and each SQL statement as a change of them. (Those
+//! that make a table are in `registry_schema`, and those that move rows of an older schema in
+//! `registry_old_rows`.)
+//!
+//! `first_from` and [`all_from`] read the rows that a SELECT shows. Whatever these are, one that
+//! stores no valid value is neither skipped nor taken for absent: the first row gives its value or
+//! a fault (`DecodesFirst`), and a list has one value for each row, or is a fault (`DecodesAll`).
+//! The contracts of the calls above these two speak of typed rows alone. Nothing is committed
+//! before the commit (`CommitsNothing`).
 #![tactic(auto)]
 
 pub use columns::pid_at;

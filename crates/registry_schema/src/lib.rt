@@ -1,4 +1,9 @@
-//! The tables of a registry's store: their texts, the schemas that these make, and how they are made.
+//! The tables of a registry's store: their texts, the schemas that these make, and how they are
+//! made.
+//!
+//! It has each CREATE statement, as one that adds its table to those of a schema (`WritesTables`,
+//! `Adds`, `AddsTo`). Nothing is committed before the commit (`CommitsNothing`), and the catalog
+//! determines which tables a database has (`HasTables`).
 #![tactic(auto)]
 
 pub use create::create_tables;
