@@ -1,4 +1,16 @@
-//! `usbreg`, a registry of shared USB product numbers.
+//! `usbreg`, a registry of shared USB product numbers: `main`, which passes the arguments and the
+//! standard streams to `run_over`, and the machine that the program runs on.
+//!
+//! If the arguments cannot be read, the exit status is 2 if they are not UTF-8, and else 1
+//! (`refuse`). The machine supposes nothing of a write that a crash cuts (`Machine::new`). It tells
+//! a peer that gave up its connection before it was accepted from a failure of the port
+//! (`is_of_peer`).
+//!
+//! No contract says what a real file, a port and a connection do: in the real machine each relation
+//! of `Host`, `Connections`, `Arrival`, `Peer`, `ByteReader` and `ByteWriter` holds of every call,
+//! and what a store holds is whatever the kit's `Start` yields. So we prove nothing of the
+//! operating system, nor that `limited` opens a connection and `close` of `peer_streams` closes it,
+//! nor that `main` passes the real streams and ends with the status of `run_over`.
 #![tactic(auto)]
 
 ghost use Rattle.std.specs.Prelude.{◌≡◌, ◌≢◌};
