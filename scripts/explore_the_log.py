@@ -27,9 +27,10 @@ that stands beside it.
 
 There are two machines and three requests, two of which want the same number.
 
-Usage: scripts/explore_the_log.py [--whole]. It explores one crash, and two sends of each of those two requests and one of
-the third, in some seconds; with --whole two crashes and two sends of each, in minutes. It needs no program. The last line
-counts the states, and the exit status is 0 if the protocol keeps every promise and each wrong one breaks its own."""
+Usage: scripts/explore_the_log.py [--whole]. It explores one crash, and two sends of each of those two requests and one of the
+third, in some seconds; with --whole two crashes and two sends of each, which are 308,670 states, in minutes. It needs no
+program. The last line counts the states, and the exit status is 0 if the protocol keeps every promise and each wrong one
+breaks its own."""
 
 import sys
 from collections import deque

@@ -6,8 +6,9 @@ The repository has a page for each row of cases/moving.tsv. The report has to sa
 becomes of each number is compared with the store, where no number that a page or a folder names is free. The replies are those that the
 script for the move said. The pages that are written of the record are those of before, but for what the report says. Written with names,
 and moved in again, they make the same rows and slugs. After mending, over the store that is there, what is new is taken; the pages that
-are written over the checkout keep their bytes where they say the same. The history in Git, whose times the record has, a commit for each
-request, at its time, and the requests of a branch are those that scripts/lib/both_ways.py makes.
+are written over the checkout keep their bytes where they say the same. The order, the people, the commits
+and the times of the history in Git are in the record, and the times are the same after both ways; a commit for each request, at its time,
+also after kills, and the requests of a branch are those that scripts/lib/both_ways.py makes.
 
 Usage: scripts/move_pid_codes.py [PROGRAM [ENTRIES]] [--all], by default the one that `make` builds, and 200. With --all both ways go for
 a thousand commits, with kills. If Debian's python3-yaml or git is not installed it says so and skips all. The exit status is 0 if all of

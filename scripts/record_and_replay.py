@@ -7,7 +7,7 @@ and the same record, also if it is replayed line by line, from standard input, a
 thousand random requests, some with times and reasons, make the same tables and the same record by `apply`, by `replay`, and
 as messages to `usbreg serve`, and `GET /head` names its digest. Lines that carry their digests are compared with it: the first
 one of another record is named. A record that was changed is refused at its line, with
-status 2, and the lines before that one stand; memory does not grow with a line that is too long. Stores of the older schemas
+status 2, and the lines before that one stand; memory does not grow with a line that is too long, of two gigabytes. Stores of the older schemas
 have their whole record too.
 
 The commands for the record in docs/backup.md run as they are written, but for folders, addresses, `apt-get`, `systemctl` and

@@ -1,8 +1,15 @@
 #!/usr/bin/env python3
 """Uses the page in `web/` in Chromium, as `make install` puts it, behind the proxy of contrib/nginx.conf and in front of
-`usbreg serve`. It looks, searches, enrols, asks, is refused, grants and declines as people do. Responses are lost, the
-server is killed, passwords change, and two windows send one order: it takes effect once. Titles and links are hostile.
+`usbreg serve`. It looks, searches, enrols, asks, is refused, grants and declines as people do. Responses are lost, the server
+is killed, passwords change, and two windows send one order: it takes effect once. Titles and links are hostile.
 lib/page_story.py has each part.
+
+Looked at are each view and form; refusals in words; the queue, by keys and on several petitions, and the reason of a decline;
+the days of entries, and where the record ends; questions and what means no; the addresses of searches; forms that were begun;
+that the files of the record say the same as the record, with what came since; what a browser keeps of the page, and an
+upgrade of it; a server that is down; responses that are lost, cut or 503, a killed server, a reload, a changed password, two
+windows; hostile titles, links and rules; the keyboard alone; what a screen reader is told of each view (cases/heard.txt);
+contrast and widths; the content security policy.
 
 Usage: scripts/use_the_page.py [OPTION] [PROGRAM], by default the one that `make` builds. What is missing is named, and the
 script skipped. The exit status is 0 if all of this holds. Each option does something else instead:
