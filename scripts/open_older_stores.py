@@ -3,9 +3,10 @@
 
 SQLite makes the stores: from examples/schema1.sql to schema4.sql there, whose texts are those of docs/schema.md and
 whose rows are those of a plain history after examples/one_vendor.requests; then from the rows of the cases in `cases/`
-and of random requests, except for those that name a vendor, and for schema 4 with such ones, with times and with reasons. Whichever command opens such a store first, it prints what it
-prints for a registry that was founded today by the same requests: the list, the reports, the record in its order, and its
-head. The rows of all tables are the same. Each accepted request gets its first reply again, and later requests do the same to both.
+and of random requests: for schemas 1 to 3 those without a vendor, a time and a reason, and for schema 4 also others.
+Whichever command opens such a store first, it prints what it prints for a registry that was founded today by the same
+requests: the list, the reports, the record in its order, and its head. The rows of all tables are the same. Each accepted
+request gets its first reply again, and later requests do the same to both.
 
 The program is killed at random moments while it opens a store with many rows. The file that is left is sound and holds
 the history in the older schema, in one between, or in the newest; opened again it is as without a stop.
