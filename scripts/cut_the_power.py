@@ -3,7 +3,7 @@
 
 A kill leaves to the disk all that was written; a power cut does not. A preloaded library records what the program writes
 and syncs, and in which order (`recording.py`), for a founding, requests of a file, an import, orders over HTTP, and the
-opening of stores of schemas 1, 2 and 3. docs/contracts.md says below "Only tested" which states of the files come from this
+opening of stores of schemas 1 to 4. docs/contracts.md says below "Only tested" which states of the files come from this
 record, what each must show, and what the control is. Where a founding was cut a registry is there whole, or can be founded.
 An older store opens as the same history.
 
@@ -258,8 +258,10 @@ def runs(usbreg, room):
     yield Requests(usbreg, room, "apply", orders)
     yield Imported(usbreg, room, "import", imported, [enrol("acme"), ask("k1", number="0011")])
     yield Served(usbreg, room, "serve", [enrol("acme"), ask("k1"), ask("k2", number="0011"), request("cora", "g1", "grant", petition=2)])
+    # only a store of schema 4 has times
+    timed = [it | {"at": f"2026-11-29T{number // 60:02}:{number % 60:02}:00Z"} for number, it in enumerate(older)]
     for version in COUNTS:
-        yield Migrated(usbreg, room, f"schema{version}", version, older)
+        yield Migrated(usbreg, room, f"schema{version}", version, timed if version == 4 else older)
 
 
 def main():

@@ -1,7 +1,7 @@
 #!/usr/bin/env python3
 """Opens stores that are nearly registries with each command of `usbreg`, and compares what it says and leaves of them.
 
-SQLite makes the stores, in schemas 1 to 4, with and without checksums: the registry of examples/one_vendor.requests
+SQLite makes the stores, in schemas 1 to 5, with and without checksums: the registry of examples/one_vendor.requests
 with one change. Some have another table, column, view or index, others a row that no history has. Each command that opens
 a registry runs over a copy of its own. The results must be those in cases/nearly_registries.txt, whose head says what its
 words mean. The script ends at once at a result that no word there stands for, such as a crash.
@@ -39,7 +39,7 @@ HEAD = """\
 What the commands do over stores that are nearly registries. scripts/nearly_registries.py makes the stores, compares the
 results with this table, and writes it with --write.
 
-Below a change to a sound store is its result in schemas 1, 2, 3, 4 and 5, each with and without checksums: the same, unless it
+Below a change to a sound store is its result in schemas 1 to 5, each with and without checksums: the same, unless it
 says so. The commands are export, report (petitions and numbers), history, head, apply (an ask, a grant and an enrol), import,
 replay (the record of the sound store), serve (GET /history/0 and then GET /petitions/3) and found.
 
@@ -147,7 +147,8 @@ def rows_of(store):
             columns = [it[0] for it in shown.description]
             for row in shown:
                 rows.update(moved(name, dict(zip(columns, row, strict=True))))
-    return 5 if "closed5" in names else 4 if "reasons4" in names else 3 if "petitions3" in names else 2 if "spans" in names else 1, rows
+    last = {"closed5": 5, "reasons4": 4, "petitions3": 3, "spans": 2}
+    return next((last[it] for it in last if it in names), 1), rows
 
 
 def moved(name, row):

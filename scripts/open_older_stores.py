@@ -3,9 +3,10 @@
 
 SQLite makes the stores: from examples/schema1.sql to schema4.sql there, whose texts are those of docs/schema.md and
 whose rows are those of a plain history after examples/one_vendor.requests; then from the rows of the cases in `cases/`
-and of random requests, except for those that name a vendor, and for schema 4 with such ones, with times and with reasons. Whichever command opens such a store first, it prints what it
-prints for a registry that was founded today by the same requests: the list, the reports, the record in its order, and its
-head. The rows of all tables are the same. Each accepted request gets its first reply again, and later requests do the same to both.
+and of random requests: for schemas 1 to 3 those without a vendor, a time and a reason, and for schema 4 also others.
+Whichever command opens such a store first, it prints what it prints for a registry that was founded today by the same
+requests: the list, the reports, the record in its order, and its head. The rows of all tables are the same. Each accepted
+request gets its first reply again, and later requests do the same to both.
 
 The program is killed at random moments while it opens a store with many rows. The file that is left is sound and holds
 the history in the older schema, in one between, or in the newest; opened again it is as without a stop.
@@ -216,13 +217,23 @@ def stops_from(version, stores, today, stops):
     return left
 
 
+def timed(requests):
+    """Yields the requests with times, a second apart."""
+    for number, it in enumerate(requests):
+        yield it | {"at": time.strftime("%Y-%m-%dT%H:%M:%SZ", time.gmtime(1_700_000_000 + number))}
+
+
 def stops(stores, count):
-    """Stops the opening of a store with 2,000 entries, 7,000 petitions and 513 reserved numbers, of each older schema."""
-    store = found(stores.program, f"{stores.folder}/many.db")
+    """Stops the opening of a store with 2,000 entries, 7,000 petitions and 513 reserved numbers, of each older schema. That of
+    schema 4 has a time of each request."""
     spans = [request("cora", f"r{it}", "reserve", first=f"{it:04x}", last=f"{it + 1:04x}") for it in range(0x8000, 0x8400, 4)]
     spans.append(request("cora", "r1", "reserve", first="ffff", last="ffff"))
-    apply(stores.program, store, write_requests(f"{stores.folder}/many.jsonl", [*rounds(1, 2000), *declined(2000, 5000), *spans]))
-    return {version: stops_from(version, stores, store, count) for version in COUNTS}
+    many = [*rounds(1, 2000), *declined(2000, 5000), *spans]
+    made = {}
+    for name, requests in (("many", many), ("timed", [*timed(many)])):
+        made[name] = found(stores.program, f"{stores.folder}/{name}.db")
+        apply(stores.program, made[name], write_requests(f"{stores.folder}/{name}.jsonl", requests))
+    return {it: stops_from(it, stores, made["timed" if it == 4 else "many"], count) for it in COUNTS}
 
 
 def foreign_changes(version):

@@ -9,7 +9,8 @@ from lib.usbreg import blank_page, opened, remove, seal
 NEWEST = {"petitions": "petitions3", "entries": "entries3", "spans": "spans3"}
 OLDER = {1: (), 2: ("reserved",), **dict.fromkeys((3, 4, 5), ("petitions", "entries", "reserved", "spans"))}
 # Statements on a sound store, by the schemas that have their tables and columns; {entries} is the table of its schema.
-# In each store one of them is run. Petition 5 is open, 1 is granted, and 0300 is a number without terms.
+# In each store one of them is run. Petition 3, which the eighth request opened, is declined, 5 is open, 1 is granted, and 0300 is
+# a number without terms.
 STATEMENTS = (
     (
         "`meta`",
@@ -21,7 +22,7 @@ STATEMENTS = (
         INSERT INTO meta SELECT 2, 77, vendor, name FROM meta
         UPDATE meta SET id = 7
         UPDATE meta SET version = 0
-        UPDATE meta SET version = 5
+        UPDATE meta SET version = 6
         UPDATE meta SET version = 77
         UPDATE meta SET version = version + 4294967296
         UPDATE meta SET vendor = 0
@@ -152,9 +153,11 @@ STATEMENTS = (
         UPDATE digests4 SET digest = printf('%064d', 7) WHERE id = 5
         UPDATE digests4 SET digest = printf('%064d', 7) WHERE id = 19
         UPDATE digests4 SET time = '2026-11-28' WHERE id = 5
+        UPDATE digests4 SET time = '2026-11-28' WHERE id = 8
         UPDATE digests4 SET time = '2026-11-28' WHERE id = 19
         UPDATE digests4 SET time = '2026-11-28T20:34:13Z' WHERE id = 0
         UPDATE digests4 SET time = '2026-11-28T20:34:13Z' WHERE id = 5
+        UPDATE digests4 SET time = '2026-11-28T20:34:13Z' WHERE id = 8
         UPDATE digests4 SET time = '2026-11-28T20:34:13Z' WHERE id = 19""",
     ),
     (
@@ -165,6 +168,22 @@ STATEMENTS = (
         INSERT INTO reasons4 VALUES (3, 'Spam')
         INSERT INTO reasons4 VALUES (5, 'Spam')
         INSERT INTO reasons4 VALUES (4294967296, 'Spam')""",
+    ),
+    (
+        "times of petitions",
+        (5,),
+        """INSERT INTO opened5 VALUES (0, '2026-11-28T20:34:13Z')
+        INSERT INTO opened5 VALUES (3, '2026-11-28')
+        INSERT INTO opened5 VALUES (3, '2026-11-28T20:34:13Z')
+        INSERT INTO opened5 VALUES (5, '2026-11-28')
+        INSERT INTO opened5 VALUES (7, '2026-11-28T20:34:13Z')
+        INSERT INTO opened5 VALUES (4294967296, '2026-11-28T20:34:13Z')
+        INSERT INTO closed5 VALUES (0, '2026-11-28T20:34:13Z')
+        INSERT INTO closed5 VALUES (3, '2026-11-28')
+        INSERT INTO closed5 VALUES (3, '2026-11-28T20:34:13Z')
+        INSERT INTO closed5 VALUES (5, '2026-11-28T20:34:13Z')
+        INSERT INTO closed5 VALUES (7, '2026-11-28T20:34:13Z')
+        INSERT INTO closed5 VALUES (4294967296, '2026-11-28T20:34:13Z')""",
     ),
 )
 FURTHER = (

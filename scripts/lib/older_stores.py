@@ -6,8 +6,8 @@ import sys
 
 from lib.usbreg import older_text, opened, remove
 
-# The tables of the third schema that replace older ones, those that the fourth and the newest add, and the numbers of tables of
-# the older schemas.
+# The tables of the third schema that replace older ones, those that the fourth and the newest add, and the numbers of tables
+# of the older schemas.
 NEW = {"vendors", "spans3", "entries3", "petitions3"}
 FOURTH = {"digests4", "reasons4"}
 NEWEST = {"opened5", "closed5"}

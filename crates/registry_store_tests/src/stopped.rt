@@ -4,7 +4,7 @@
 use crate::stops::{How, Row, stop_in};
 use std::test::Fail;
 use store_visits::images::{COPYING, Fate, MANY, PLAIN, Stops};
-use store_visits::older::{OF_FIRST, OF_SECOND, OF_THIRD, ONE_VENDOR};
+use store_visits::older::{OF_FIRST, OF_FOURTH, OF_SECOND, OF_THIRD, ONE_VENDOR};
 use store_visits::starts::Start;
 use store_visits::steps::{EACH_KIND, ENROL, Step, TEN};
 
@@ -264,25 +264,30 @@ fn an_opening_as_the_main_file_stops_later(rt: HostRuntime) -> Result<(), Fail> 
     )
 }
 
-// A migration from the second schema is the second step of one from the first, and one from the third
-// is a step of its own, so the stops of a process are tested only there.
+// A migration from the second schema is the second step of one from the first, and those from the third
+// and the fourth are steps of their own, so the stops of a process are tested only there.
 
 #[test]
 fn schema_1_as_the_main_file_stops(rt: HostRuntime) -> Result<(), Fail> {
-    stop_in(&rt, rt.alloc(), migration(&OF_FIRST, MAIN_FILE, "1|\n4|\n"))
+    stop_in(&rt, rt.alloc(), migration(&OF_FIRST, MAIN_FILE, "1|\n5|\n"))
 }
 
 #[test]
 fn schema_1_as_the_log_stops(rt: HostRuntime) -> Result<(), Fail> {
-    stop_in(&rt, rt.alloc(), migration(&OF_FIRST, LOG, "1|\n2|\n4|\n"))
+    stop_in(&rt, rt.alloc(), migration(&OF_FIRST, LOG, "1|\n2|\n5|\n"))
 }
 
 #[test]
 fn schema_2_as_the_process_stops(rt: HostRuntime) -> Result<(), Fail> {
-    stop_in(&rt, rt.alloc(), migration(&OF_SECOND, PROCESS, "2|\n4|\n"))
+    stop_in(&rt, rt.alloc(), migration(&OF_SECOND, PROCESS, "2|\n5|\n"))
 }
 
 #[test]
 fn schema_3_as_the_process_stops(rt: HostRuntime) -> Result<(), Fail> {
-    stop_in(&rt, rt.alloc(), migration(&OF_THIRD, PROCESS, "3|\n4|\n"))
+    stop_in(&rt, rt.alloc(), migration(&OF_THIRD, PROCESS, "3|\n5|\n"))
+}
+
+#[test]
+fn schema_4_as_the_process_stops(rt: HostRuntime) -> Result<(), Fail> {
+    stop_in(&rt, rt.alloc(), migration(&OF_FOURTH, PROCESS, "4|\n5|\n"))
 }

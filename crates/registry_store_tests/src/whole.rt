@@ -5,7 +5,7 @@ use std::alloc::Global;
 use std::process::Abort;
 use std::test::Fail;
 use store_visits::images::{COPYING, Stop, are_same, nothing};
-use store_visits::older::{OF_FIRST, OF_SECOND, OF_THIRD, ONE_VENDOR, RESERVE};
+use store_visits::older::{OF_FIRST, OF_FOURTH, OF_SECOND, OF_THIRD, ONE_VENDOR, RESERVE};
 use store_visits::starts::{Start, go_on, image_at, plain_over};
 use store_visits::steps::{EACH_KIND, ENROL, Step};
 use store_visits::values::{founding, lines_of, replies_to, requests_of};
@@ -19,10 +19,11 @@ fn joined(alloc: Global, parts: [&str; 4]) -> Result<String, Fail> {
     Ok(text)
 }
 
-const OLDER_STORES: [(&[&str], &str); 3] = [
+const OLDER_STORES: [(&[&str], &str); 4] = [
     (&OF_FIRST, "1|\n"),
     (&OF_SECOND, "2|\n"),
     (&OF_THIRD, "3|\n"),
+    (&OF_FOURTH, "4|\n"),
 ];
 
 fn four<'a>(

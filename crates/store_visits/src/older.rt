@@ -1,4 +1,4 @@
-//! Stores of schemas 1, 2 and 3, made by statements, and the requests that led to them: each kind of
+//! Stores of schemas 1 to 4, made by statements, and the requests that led to them: each kind of
 //! order that schemas 1 and 2 know.
 
 use crate::steps::Step;
@@ -100,7 +100,7 @@ CREATE TABLE entries (pid INTEGER PRIMARY KEY, org TEXT NOT NULL, held INTEGER N
 CREATE TABLE reserved (pid INTEGER PRIMARY KEY) STRICT;
 CREATE TABLE kept (caller TEXT NOT NULL, request_key TEXT NOT NULL, request BLOB NOT NULL, reply TEXT NOT NULL, PRIMARY KEY (caller, request_key)) STRICT";
 
-/// The rows that all three schemas share, without the kept replies.
+/// The rows that all these schemas share, without the kept replies.
 const ROWS: &str = "INSERT INTO curators VALUES ('cora');
 INSERT INTO licences VALUES ('GPL-3.0-only'), ('MIT');
 INSERT INTO fixed VALUES (1, 16);
@@ -148,6 +148,32 @@ INSERT INTO entries3 VALUES (4617, 769, 'bolt', 0, 'Probe 2', NULL, NULL, NULL);
 INSERT INTO entries3 VALUES (4617, 8208, 'acme', 1, 'Lamp 2', 'GPL-3.0-only', 'https://acme.example/lamp', 'https://acme.example/src');
 INSERT INTO spans3 VALUES (4617, 8192, 8207), (4617, 8224, 8447)";
 
+/// Schema 4: the digests of the founding and of each request are there. No request has a time.
+const FOURTH: &str =
+    "CREATE TABLE digests4 (id INTEGER PRIMARY KEY, time TEXT, digest TEXT NOT NULL) STRICT;
+CREATE TABLE reasons4 (petition INTEGER PRIMARY KEY, reason TEXT NOT NULL) STRICT;
+UPDATE meta SET version = 4;
+INSERT INTO digests4 VALUES (0, NULL, 'b12d2afdbe3ade45513063af7d802715463fce899152192ba61589d4565e5460'),
+(1, NULL, '4c46e6d620ca84fd373484999cc5c269807692c0c1f1d72b7f3986a514435443'),
+(2, NULL, '0d16f3f551bc1f602a5cb2a1ee3c60417e4ad6ee67b8d1a40496e4c9c8551121'),
+(3, NULL, '86cfdeda941c2ca180b8632731d50cc445dde857ee00214b7f69b82cd86a0df3'),
+(4, NULL, '0226e04002529c7a4ccb021a2e0fc3f09d3d687c59b24a2d12c380bc3beeb0f8'),
+(5, NULL, '2f905b3a0d2b6e22d6e1f8d45dd6e345116dd3cffa0e75b065da95f63c8eae6f'),
+(6, NULL, '6ab37cd10348217253b7ba0c95707177b6b92145e78cab1febd94fcf4ea8d91c'),
+(7, NULL, 'dcf00ed85472498e2a97286125b3b944081f14d3fd7a209208e1f9d51ad868df'),
+(8, NULL, '38cf386201ed3f7e5efb8ec8b88e8f26fa12d0a851a120cfa88729f6fefcd099'),
+(9, NULL, 'e0a5b289aacf551a508dfbdd13c068a9ac25bf4a5925f255daeb2f8acca997bb'),
+(10, NULL, '4d69b1b364f20cbf43b9923fc57afee299fe4dd17fe7699bb9766fd951e8a6c1'),
+(11, NULL, 'd23f2c55f5ca15e3357441208a0caaabbfcd37fa712fb9268c37e9100cfe6619'),
+(12, NULL, '4cf3a9212c0da2f282c4898ab87601a77a3277fcd9bff4f168d098873fb7e937'),
+(13, NULL, '63edf42a94f21e2ae544da0163775fb690161362d7e67b496a0dfa02273207de'),
+(14, NULL, 'd870d9990eb52a3988b7d200611bf1e980d9e6acb25850b55857edb58dd4c010'),
+(15, NULL, 'a9bc7f60d901526d11becd6772560e87213009d386e671a2db3be68eb107408e'),
+(16, NULL, '569bedbfdc7090527f19bc8fc391213f8d6828e82488a4bc84bf0fcab5410228'),
+(17, NULL, 'b3109b6473408548f4bb644ff20242e0db8652a1383cd521c0cea96818be643c'),
+(18, NULL, '395717cc14c85d32746612029de59fd17dd25d5f5dc61ea914481881347b4ce7'),
+(19, NULL, 'bc860e0e189bb0bcc2ef8f243b691eaab6ef368e40dd620c652a66dc02fb5358')";
+
 /// The statements that make a store of schema 1, without the kept replies.
 pub const OF_FIRST: [&str; 4] = [TABLES, ROWS, NUMBERS, FIRST];
 
@@ -156,6 +182,9 @@ pub const OF_SECOND: [&str; 4] = [TABLES, ROWS, NUMBERS, SECOND];
 
 /// The same for schema 3.
 pub const OF_THIRD: [&str; 3] = [TABLES, ROWS, THIRD];
+
+/// The same for schema 4.
+pub const OF_FOURTH: [&str; 4] = [TABLES, ROWS, THIRD, FOURTH];
 
 /// The caller, key, canonical form and reply of each accepted request.
 const KEPT: [(&str, &str, &str, &str); 19] = [
