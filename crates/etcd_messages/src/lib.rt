@@ -26,8 +26,8 @@
 //! of a message. [`error_text`] returns the text of an error, if there is one (`reason_of`).
 //!
 //! Two laws say that this agrees with what etcd answers (`append_says`, `page_says`), whatever its
-//! header and its revisions are: the answer to an append is read as what became of it at the lines
-//! that etcd kept before (`append_means`), and the answer with lines is read as these lines, and
+//! header and its revisions are. The answer to an append is read as what became of it at the lines
+//! that etcd kept before (`append_means`). The answer with lines is read as these lines, and
 //! whether there are more.
 #![tactic(auto)]
 

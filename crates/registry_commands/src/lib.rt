@@ -105,7 +105,7 @@
 //! (`IsOfReplies`), and `import` writes nothing (`IsFailed`).
 //!
 //! `fault: file` is printed only if the last read of the input or the last write to the output
-//! failed (`FailsOnce`), or the input is too long, in bytes or, of `replay`, in lines; and once an
+//! failed (`FailsOnce`), or the input is too long, in bytes or, of `replay`, in lines. Once an
 //! output began these calls print nothing else for a list, a report or a name (`IsOfInput`,
 //! `IsOfOutput`, `IsPrinted`). `found` prints `fault: taken` only if the database has a table
 //! `meta` (`IsOfFounding`), and a failed close, also after a whole list or report, is printed as

@@ -35,7 +35,7 @@
 //!
 //! Two promises hold whatever the store holds. If `act` or a query finds the rows of no history
 //! (`Foreign`), and no call found them before, the message gets refusal 30 with status 503, and
-//! `serve_all` ends with that fault (`notes`, `told`): no order gets 200 or a refusal by the rules
+//! `serve_all` ends with that fault (`notes`, `told`). No order gets 200 or a refusal by the rules
 //! then, and no query a response of its own. After a result without a fault of the registry one
 //! that was not poisoned is not poisoned (`goes_on`).
 //!

@@ -52,10 +52,14 @@
 //! control character of ASCII (`IsExplained`, `cause_line`). The line changes nothing else:
 //! `performs` holds of the machine, the output and the exit status with it too.
 //!
-//! Only tests show whether the line comes, what it says (the cause of a failure, what is wrong in
-//! an input, or after status 0 which keys of the founding file or fields of request lines are
-//! ignored, or that the list of an `import` has nothing of the vendor), and what `Heard` keeps of
-//! the last line for it; and that a command does the same without `--verbose`.
+//! Only tests show
+//!
+//! - whether the line comes;
+//! - what it says: the cause of a failure, what is wrong in an input, or after status 0 which keys
+//!   of the founding file or fields of request lines are ignored, or that the list of an `import`
+//!   has nothing of the vendor;
+//! - what `Heard` keeps of the last line for it;
+//! - that a command does the same without `--verbose`.
 //!
 //! # What the files then hold
 //!

@@ -1,12 +1,16 @@
 //! The list, the reports, the record and the lists of a registry. Reads it, and changes nothing.
 //!
-//! `document_of` returns the list of the history that the registry represents (`IsListing`),
-//! `report_of` its report of a kind (`IsReport`), and `record_page` a page of its accepted requests
-//! with their replies, if these requests have valid fields (`IsRecordPage`): the longest beginning
-//! of their lines that fits on a page, or the first line alone if it is longer (`IsPage`).
-//! `lists_of` returns its vendors, organisations, petitions and numbers (`AreLists`). All are
-//! queries (`IsQuery`). Only tests show that they have the same fault for memory that runs out in
-//! the store and outside of it.
+//! Each call is a query (`IsQuery`), and returns what the history has that the registry represents:
+//!
+//! - `document_of`: its list (`IsListing`);
+//! - `report_of`: its report of a kind (`IsReport`);
+//! - `record_page`: a page of its accepted requests with their replies, if these requests have
+//!   valid fields (`IsRecordPage`): the longest beginning of their lines that fits on a page, or
+//!   the first line alone if it is longer (`IsPage`);
+//! - `lists_of`: its vendors, organisations, petitions and numbers (`AreLists`).
+//!
+//! Only tests show that they have the same fault for memory that runs out in the store and outside
+//! of it.
 #![tactic(auto)]
 
 mod list;
