@@ -264,7 +264,7 @@ def lines_of(results):
             lines += [f"  {it}" for it in items] if any(" " in it and not it.startswith("older ") for it in items) else [f"  {', '.join(items)}"]
             for cell in dict.fromkeys(cells):
                 numbers = [str(version) for version in SCHEMAS if cells[version - 1] == cell]
-                lines.append(f"      {' '.join(numbers):<7}  {cell}")
+                lines.append(f"      {' '.join(numbers):<9}  {cell}")
     return lines
 
 

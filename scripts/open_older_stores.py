@@ -24,7 +24,7 @@ import sys
 import time
 
 from lib.beside_plain import Registry, Room
-from lib.older_stores import COUNTS, NEWEST, in_order, in_schema, make, rows_of
+from lib.older_stores import COUNTS, FOURTH, NEWEST, in_order, in_schema, make, rows_of
 from lib.requests import Chance, all_cases, request, requests_in
 from lib.seen_by_sqlite import asked, documented_texts, same
 from lib.stopping import killed
@@ -181,13 +181,13 @@ def histories(stores):
         for version in COUNTS:
             store = make(f"{stores.folder}/older.db", version, rows_as_kept(today.store))
             stores.opens_as(what, version, store, today, accepted, more)
-    # In schema 4 requests have times, and name vendors.
+    # In schema 4 requests have times, name vendors and give reasons.
     for seed in (5, 6):
         chance = Chance(seed)
         what = f"requests with times made up by {seed}"
-        today, accepted = stores.today(what, [chance.request() for _ in range(300)], curator="ann", fixed="0007")
-        if not all(today.history.tables()[it] for it in NEWEST):
-            sys.exit(f"{what} open or close no petition at a time")
+        today, accepted = stores.today(what, [chance.request() for _ in range(1000)], curator="ann", fixed="0007")
+        if not all(today.history.tables()[it] for it in (*FOURTH, *NEWEST)):
+            sys.exit(f"{what} give no reason, or open or close no petition at a time")
         stores.opens_as(what, 4, make(f"{stores.folder}/older.db", 4, rows_as_kept(today.store)), today, accepted, more)
     return len(all_histories) + 2
 
