@@ -320,7 +320,7 @@ def main():
             follows(usbreg, made)
         made_up(room, records)
     print(
-        f"{room.count} records and those of three older schemas are those of a plain history, and their replays make the same"
+        f"{room.count} records and those of four older schemas are those of a plain history, and their replays make the same"
         f" registries; {stops} replays were killed (seed {seed}); {time.monotonic() - began:.0f} s"
     )
     if lacking:
