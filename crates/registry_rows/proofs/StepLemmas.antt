@@ -20,7 +20,7 @@ use Rattle.table_laws.proofs.StatementLemmas.{IsSelect}
 use Rattle.table_laws.proofs.FailLemmas.{IsExcused, IsTyped, query_stops}
 use Rattle.registry_schema.specs.Faults.{IsFaultOf}
 use Rattle.registry_schema.specs.declared.fault.TableFault.{TableFault}
-use Rattle.registry_schema.specs.declared.fault.TableFault.TheVariants.{Store, NoMemory, Foreign}
+use Rattle.registry_schema.specs.declared.fault.TableFault.TheVariants.{Store, Foreign}
 use Rattle.registry_rows.specs.Steps.{Decodes, Tells, Changes, Writes, Reads, ReadsRows}
 use Rattle.registry_rows.specs.Columns.{DecodesFirst, DecodesAll}
 use Rattle.registry_rows.specs.Tables.{Tables, Holds}

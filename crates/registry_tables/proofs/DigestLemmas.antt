@@ -1,5 +1,5 @@
 -- One more digest, and where the record ends.
-use Rattle.std.proofs.Common.{◌≡◌, ◌≤◌, ◌<◌, ◌<ℤ◌, int_lt, ℕ, zero, suc, pos, ◌+◌, true, false, Option, List, [], ◌∷◌, ◌++◌, length, map, filter, take, drop, reverse, None, refl, sym, ap, subst, ◌∙◌, arith}
+use Rattle.std.proofs.Common.{◌≡◌, ◌≤◌, ◌<◌, ◌<ℤ◌, int_lt, ℕ, zero, suc, pos, ◌+◌, true, false, Option, List, [], ◌∷◌, ◌++◌, length, map, filter, take, drop, reverse, None, refl, sym, ap, ◌∙◌, arith}
 use Rattle.std.specs.List.{AllByRecursion}
 use Rattle.std.proofs.lemmas.Bool.Decides.{nat_tests}
 use Rattle.std.proofs.lemmas.Int.{ints}

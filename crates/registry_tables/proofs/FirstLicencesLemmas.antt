@@ -1,5 +1,5 @@
 -- The licences of the founding are the allowed ones that no order added.
-use Rattle.std.proofs.Common.{◌≡◌, ◌≢◌, ℕ, ℤ, suc, ◌+◌, ◌<◌, length, get_or, drop, append_assoc, Bool, true, false, cond, not, ◌&&◌, ◌||◌, List, [], ◌∷◌, ◌++◌, Option, Some, None, Result, Ok, Err, IfOk, Vec, Global, codes, filter, map, refl, sym, ap, ap₂, subst, ◌∙◌, nat_cmp, arith}
+use Rattle.std.proofs.Common.{◌≡◌, ◌≢◌, ℕ, ℤ, suc, ◌+◌, ◌<◌, length, get_or, drop, append_assoc, Bool, true, false, cond, not, ◌&&◌, ◌||◌, List, [], ◌∷◌, ◌++◌, Option, Some, None, Result, Ok, Err, IfOk, Vec, Global, codes, filter, map, refl, sym, ap, ap₂, ◌∙◌, nat_cmp, arith}
 use Rattle.std.specs.Borrow.{MutBor}
 use Rattle.std.specs.List.{AllByRecursion, IsDistinct, list_any}
 use Rattle.std.specs.Option.{option_to_list}
@@ -18,7 +18,6 @@ use Rattle.registry_schema.specs.declared.fault.TableFault.TheVariants.{Foreign}
 use Rattle.registry_rules.specs.Accepted.{accepted_of, accepted_by}
 use Rattle.registry_rules.specs.History.{History, all_of, with_answer}
 use Rattle.registry_rules.specs.Query.{adds_licence, is_licence}
-use Rattle.registry_rules.specs.Reply.{act_text}
 use Rattle.registry_rules.specs.Run.{Legal}
 use Rattle.registry_rules.specs.Texts.{AreSorted}
 use Rattle.registry_rules.specs.declared.deed.Act.{Act}
@@ -36,7 +35,7 @@ use Rattle.registry_tables.specs.Rows.{kept_row_of}
 use Rattle.registry_tables.proofs.NumberingLemmas.{numbered_values}
 use Rattle.registry_tables.proofs.OpeningLemmas.{same_names}
 use Rattle.registry_tables.proofs.ReadLemmas.{rows_pass, rows_short}
-use Rattle.registry_tables.proofs.ViewLemmas.{same_bytes, bytes_same}
+use Rattle.registry_tables.proofs.ViewLemmas.{same_bytes}
 
 -- ---- the replies that name a licence
 

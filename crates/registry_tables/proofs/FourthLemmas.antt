@@ -1,5 +1,5 @@
 -- From the rows of the third schema to those of the newest.
-use Rattle.std.proofs.Common.{◌≡◌, ℕ, inl, inr, true, List, [], ◌∷◌, Err, IsTrue, refl, ap, arith}
+use Rattle.std.proofs.Common.{◌≡◌, inl, inr, true, [], ◌∷◌, Err, IsTrue, refl, ap, arith}
 use Rattle.sqlite.specs.Effect.{Database}
 use Rattle.sqlite.specs.State.{State, IsUnchanged}
 use Rattle.sqlite_keyed.specs.Keyed.{insert_by}

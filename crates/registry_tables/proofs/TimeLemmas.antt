@@ -1,5 +1,5 @@
 -- The times at which petitions were opened and closed.
-use Rattle.std.proofs.Common.{◌≡◌, ◌+◌, ◌<◌, ℕ, Bool, true, false, cond, nat_eq, ℤ, List, [], ◌∷◌, ◌++◌, length, take, drop, filter, map, fold, Option, Some, None, Ok, Err, Result, IfOk, Vec, Global, length-append, refl, sym, ap, subst, ◌∙◌, arith}
+use Rattle.std.proofs.Common.{◌≡◌, ◌+◌, ◌<◌, ℕ, Bool, true, false, cond, nat_eq, ℤ, List, [], ◌∷◌, ◌++◌, length, take, drop, filter, map, Option, Some, None, Ok, Err, Result, IfOk, Vec, Global, length-append, refl, sym, ap, subst, ◌∙◌, arith}
 use Rattle.std.specs.Option.{option_map, option_or}
 use Rattle.std.specs.List.{AllByRecursion}
 use Rattle.std.proofs.lemmas.List.{take-map, take_all}
@@ -10,12 +10,11 @@ use Rattle.sqlite.proofs.Callers.{unchanged_then}
 use Rattle.registry_schema.specs.declared.fault.TableFault.{TableFault}
 use Rattle.table_laws.specs.Inside.{GoesOn}
 use Rattle.table_laws.proofs.InsideLemmas.{goes_then}
-use Rattle.usbnum_core.specs.declared.number.Number.{Number}
 use Rattle.registry_rules.specs.Number.{number}
 use Rattle.registry_rules.specs.Accepted.{IsValid, accepted_of, accepted_by}
 use Rattle.registry_rules.specs.History.{History, with_deed, with_answer}
 use Rattle.registry_rules.specs.Import.{classes_from}
-use Rattle.registry_rules.specs.Query.{asks, opened_by, closed_by, time_for, opened_at, closed_at, org_of, enrolled, asked, petition_of, open_count, vendors, has_vendor, vendor_meant, licences, is_licence, is_fixed}
+use Rattle.registry_rules.specs.Query.{asks, opened_by, closed_by, time_for, opened_at, closed_at, org_of, enrolled, asked, petition_of, open_count, vendors, has_vendor, vendor_meant, licences, is_licence}
 use Rattle.registry_rules.specs.Run.{Legal, request_of}
 use Rattle.registry_rules.specs.Verdict.{outcome, standing_of, standing_at, org_owning, org_petitioning, least_for, number_chosen, meets_fixed, all_reserved, least_owned, new_org, new_petition, new_card}
 use Rattle.registry_rules.specs.declared.accepted.Accepted.{Accepted}
@@ -24,14 +23,13 @@ use Rattle.registry_rules.specs.declared.deed.Deed.{Deed}
 use Rattle.registry_rules.specs.declared.founding.Founding.{Founding}
 use Rattle.registry_rules.specs.declared.order.Order.{Order}
 use Rattle.registry_rules.specs.declared.order.Order.TheVariants as orders
-use Rattle.registry_rules.specs.declared.refusal.Refusal.{Refusal}
 use Rattle.registry_rules.proofs.CheckLemmas.{enrol_ok, amend_org_ok, ask_ok, grant_ok, decline_ok, withdraw_ok, amend_ok, return_ok, reserve_ok, release_ok, import_ok, add_vendor_ok, add_licence_ok, hand_over_ok, correct_ok, correct_org_ok, revoke_ok}
 use Rattle.registry_rules.proofs.RunLemmas.{IsNew, is_new, legal_before, legal_verdict}
 use Rattle.registry_rows.specs.declared.digests.DigestRow.{DigestRow}
 use Rattle.registry_rows.specs.declared.kept.KeptRow.{KeptRow}
-use Rattle.registry_rows.specs.Rows.{is_after, is_digest_after, is_time_of}
+use Rattle.registry_rows.specs.Rows.{is_after, is_digest_after}
 use Rattle.registry_rows.specs.Tables.{Tables, Holds, replies_after}
-use Rattle.registry_tables.specs.Rows.{AreTimes, AreTimesOf, AreKeptReplies, digest_rows, kept_row_of, HasValidOrder}
+use Rattle.registry_tables.specs.Rows.{AreTimes, AreTimesOf, kept_row_of, HasValidOrder}
 use Rattle.registry_tables.specs.Times.{times_with, PutsTimes, opened_next, asked_then, closed_named, Reached, reached_after, reached_by, reached_at, with_times, PutsPage, IsRecordOf, IsPageOf, PutsRecord}
 use Rattle.registry_tables.specs.declared.times.Place.{Place}
 use Rattle.registry_tables.proofs.DigestLemmas.{time_kept, time_asked, times_past}

@@ -1,5 +1,5 @@
 -- The founding of a store in the middle of a migration.
-use Rattle.std.proofs.Common.{◌≡◌, ◌∙◌, ℕ, ℤ, List, Err, IsTrue, map, filter, not, refl, ap, sym, subst}
+use Rattle.std.proofs.Common.{◌≡◌, ◌∙◌, ℕ, ℤ, List, IsTrue, map, filter, not, refl, ap, sym, subst}
 use Rattle.sqlite.specs.State.{State}
 use Rattle.sqlite.proofs.Callers.{unchanged_then}
 use Rattle.table_laws.specs.Inside.{GoesOn}
@@ -11,7 +11,6 @@ use Rattle.usbnum_core.specs.declared.number.Span.{Span}
 use Rattle.registry_rules.specs.Accepted.{accepted_of}
 use Rattle.registry_rules.specs.History.{History}
 use Rattle.registry_rules.specs.Texts.{AreSorted}
-use Rattle.registry_rules.specs.declared.founding.Founding.{Founding}
 use Rattle.registry_rows.specs.declared.kept.KeptRow.{KeptRow}
 use Rattle.registry_rows.specs.Tables.{Tables, Holds}
 use Rattle.registry_tables.specs.FirstLicences.{was_added}

@@ -1,6 +1,6 @@
 -- The times at which petitions were opened and closed: how a request changes their tables, and how a migration fills them from
 -- the record.
-use Rattle.std.specs.Prelude.{◌≡◌, ◌+◌, ℕ, List, [], Option, Some, None, length, take, drop, fold}
+use Rattle.std.specs.Prelude.{◌≡◌, ◌+◌, ℕ, List, Option, Some, None, length, take, drop, fold}
 use Rattle.sqlite.specs.State.{State}
 use Rattle.sqlite_keyed.specs.Keyed.{insert_by}
 use Rattle.table_laws.specs.Inside.{GoesOn}

@@ -1,4 +1,4 @@
-use Rattle.std.proofs.Common.{◌≡◌, ℕ, List, Bool, true, false, ◌++◌, ◌∷◌, [], not, sym, ap, ◌∙◌, rules}
+use Rattle.std.proofs.Common.{◌≡◌, ℕ, List, Bool, true, false, ◌++◌, ◌∷◌, [], not, ap, ◌∙◌, rules}
 use Rattle.registry_tables.specs.FirstLicences.{was_added}
 use Rattle.registry_tables.proofs.FirstLicencesLemmas.{one_kept, one_dropped}
 use Rattle.registry_tables.proofs.founded_licences.not_added.Goals as goal

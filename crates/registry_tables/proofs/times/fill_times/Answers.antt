@@ -1,4 +1,4 @@
-use Rattle.std.proofs.Common.{◌≡◌, length, Err, refl, ap, sym, ◌∙◌, arith, rules}
+use Rattle.std.proofs.Common.{◌≡◌, length, Err, refl, sym, ◌∙◌, arith, rules}
 use Rattle.sqlite.specs.State.{HasCleanDisk}
 use Rattle.sqlite.specs.Held.{state}
 use Rattle.registry_tables.proofs.FillLemmas.{none_there}

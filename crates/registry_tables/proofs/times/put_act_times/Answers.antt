@@ -1,6 +1,3 @@
-use Rattle.std.proofs.Common.{subst}
-use Rattle.registry_tables.specs.Calls.{WritesTablesOpen}
-use Rattle.registry_tables.specs.Times.{PutsTimes}
 use Rattle.registry_tables.proofs.times.put_act_times.Goals as goal
 
 pub returns : goal.returns

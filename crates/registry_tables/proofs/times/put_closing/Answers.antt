@@ -1,7 +1,4 @@
-use Rattle.std.proofs.Common.{refl, sym, subst, rules}
-use Rattle.sqlite.specs.Held.{state}
-use Rattle.registry_rows.specs.Tables.{Tables, Holds}
-use Rattle.registry_tables.specs.Times.{times_with}
+use Rattle.std.proofs.Common.{refl, rules}
 use Rattle.registry_tables.proofs.WriteLemmas.{written_open}
 use Rattle.registry_tables.proofs.times.put_closing.Goals as goal
 

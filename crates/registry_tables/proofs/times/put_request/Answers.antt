@@ -1,6 +1,4 @@
-use Rattle.std.proofs.Common.{arith, subst}
 use Rattle.sqlite.specs.Held.{state}
-use Rattle.registry_tables.specs.Times.{PutsTimes}
 use Rattle.registry_tables.proofs.TimeLemmas.{puts_one}
 use Rattle.registry_tables.proofs.times.put_request.Goals as goal
 

@@ -1,10 +1,6 @@
-use Rattle.std.proofs.Common.{◌≡◌, Err, sym, subst, ◌∙◌, arith, rules}
-use Rattle.std.proofs.lemmas.Result.{IfOk-weaker}
+use Rattle.std.proofs.Common.{◌≡◌, Err, sym, ◌∙◌, arith, rules}
 use Rattle.sqlite.specs.State.{HasCleanDisk}
 use Rattle.sqlite.specs.Held.{state}
-use Rattle.sqlite.proofs.Callers.{unchanged_then}
-use Rattle.table_laws.proofs.InsideLemmas.{goes_then}
-use Rattle.registry_rows.specs.Tables.{Holds}
 use Rattle.registry_tables.proofs.TimeLemmas.{page_read, page_refused}
 use Rattle.registry_tables.proofs.times.read_page.Goals as goal
 

@@ -1,4 +1,4 @@
-use Rattle.std.proofs.Common.{rules, ◌∙◌}
+use Rattle.std.proofs.Common.{◌∙◌}
 use Rattle.registry_tables.proofs.WrittenLemmas.{founding_made}
 use Rattle.registry_tables.proofs.written.founding_of.Goals as goal
 

@@ -1,4 +1,4 @@
-use Rattle.std.proofs.Common.{◌≡◌, ◌∙◌, Err, sym, arith, rules, codes, filter}
+use Rattle.std.proofs.Common.{◌≡◌, ◌∙◌, Err, sym, arith, rules}
 use Rattle.sqlite.specs.State.{HasCleanDisk}
 use Rattle.sqlite.specs.Held.{state}
 use Rattle.registry_tables.proofs.WrittenLemmas.{read_then, read_as, read_fails}
