@@ -58,8 +58,13 @@ UNSOUND = (
     ("UPDATE digests4 SET digest = printf('%064d', 7) WHERE id = (SELECT max(id) FROM digests4)", "digest of the record"),
     ("UPDATE digests4 SET time = '2026-11-28T20:34:13Z' WHERE id = 1", "digest of the record"),
 )
-# What is compared with nothing: a digest before the last, a reason.
-UNNOTICED = ("UPDATE digests4 SET digest = printf('%064d', 7) WHERE id < (SELECT max(id) FROM digests4)", "INSERT INTO reasons4 VALUES (3, 'Spam')", "INSERT INTO opened5 VALUES (3, '2026-11-28T20:34:13Z')")
+# What is compared with nothing: a digest before the last, a reason, a time of a petition.
+UNNOTICED = (
+    "UPDATE digests4 SET digest = printf('%064d', 7) WHERE id < (SELECT max(id) FROM digests4)",
+    "INSERT INTO reasons4 VALUES (3, 'Spam')",
+    "INSERT INTO opened5 VALUES (3, '2026-11-28T20:34:13Z')",
+    "INSERT INTO closed5 VALUES (3, '2026-11-28T20:34:13Z')",
+)
 
 
 def files(store):

@@ -151,13 +151,16 @@ def first_line(usbreg, room):
 
 def heads(usbreg, room):
     """Asks for the head after each order, some with a time: it is that of a plain history, and stays the same after repeats,
-    also at another time, and after refused orders. A petition has the reason for which it was declined."""
+    also at another time, and after refused orders. A petition has the reason for which it was declined, and the times at which
+    it was opened and closed, if there were any."""
     history, store = History(FOUNDING), found(usbreg, f"{room}/heads.db")
     listed = "1209  Shared products\n\t0012  Clock\n"
     orders = [
         ENROL | {"at": TIME}, ask("k2"), ask("k3") | {"at": "2026-11-29T00:00:00Z"}, asked("d1", "decline", "cora", petition=1, reason="No files at the link") | {"at": TIME},
         asked("d2", "decline", "cora", petition=2), asked("d3", "decline", "cora", petition=2, reason="Late"), asked("i1", "import", "cora", org="acme", list=listed) | {"at": TIME},
         asked("d1", "decline", "cora", petition=1, reason="Another") | {"at": TIME}, ENROL | {"at": "2027-01-01T00:00:00Z"}, ENROL,
+        *(ask(it) | {"at": "2026-11-29T00:00:01Z"} for it in ("k4", "k5", "k6")), asked("g1", "grant", "cora", petition=3) | {"at": "2026-11-29T00:00:02Z"},
+        asked("g1", "grant", "cora", petition=3) | {"at": TIME}, asked("w1", "withdraw", petition=4) | {"at": "2026-11-29T00:00:03Z"},
     ]
     with serving(usbreg, store).up() as server:
         for it in (None, *orders):
@@ -165,7 +168,13 @@ def heads(usbreg, room):
                 same(f"{it}", exchange(server.port, command(it)).partition(b"\r\n\r\n")[2], compact(history.answer(it)) + b"\n")
             same(f"the head after {it}", exchange(server.port, get("/head")), response(compact(history.head()) + b"\n"))
         card = {"licence": "MIT", "org": "acme", "site": LINK, "source": LINK, "state": "declined", "title": "Lamp"}
-        shown = {1: {"reason": "No files at the link", "closed": TIME}, 2: {"opened": "2026-11-29T00:00:00Z"}}
+        shown = {
+            1: {"reason": "No files at the link", "closed": TIME},
+            2: {"opened": "2026-11-29T00:00:00Z"},
+            3: {"state": "granted", "granted": "0011", "opened": "2026-11-29T00:00:01Z", "closed": "2026-11-29T00:00:02Z"},
+            4: {"state": "withdrawn", "opened": "2026-11-29T00:00:01Z", "closed": "2026-11-29T00:00:03Z"},
+            5: {"state": "open", "opened": "2026-11-29T00:00:01Z"},
+        }
         for number, more in shown.items():
             same(f"petition {number}", exchange(server.port, get(f"/petitions/{number}")), response(compact(card | {"id": number} | more) + b"\n"))
     same("the record", printed([usbreg, "history", store]), "".join(f"{it}\n" for it in history.record()).encode())

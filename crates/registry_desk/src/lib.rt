@@ -21,8 +21,8 @@
 //! but the last if the registry had a fault there (`IsLeftAfter`). The law `leaves_answered` draws
 //! from this that it holds each message whose response was written whole with a status other than
 //! 503. By the law `has_one_response` a history has one response to what a message says; to a query
-//! for a page or the head of the record it does if the requests of the history have valid fields
-//! (`IsDetermined`). The registry that `serve_and_crash` or `serve_and_open` of
+//! for a petition, a page or the head of the record it does if the requests of the history have
+//! valid fields (`IsDetermined`). The registry that `serve_and_crash` or `serve_and_open` of
 //! `registry_reopening` opens next represents such a history (`IsReopenedAfterServing`).
 //!
 //! `serve_all` keeps the last list, the last report of each kind and the first line of the record,

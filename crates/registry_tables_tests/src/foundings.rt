@@ -11,7 +11,7 @@ const STEPS: &[Step<'static>] = &[
     Step::TryToFound,
     Step::State,
     Step::Open,
-    Step::Run("UPDATE meta SET version = 5"),
+    Step::Run("UPDATE meta SET version = 6"),
     Step::Open,
 ];
 

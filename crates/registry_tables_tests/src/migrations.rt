@@ -5,8 +5,8 @@ use crate::stores::{Case, check};
 use crate::values::{Put, State};
 use std::test::Fail;
 
-// From the newest schema to the third, from there to the second, and from there to the first, where
-// only the numbers 2000 to 20ff are reserved.
+// From the newest schema to the fourth and to the third, from there to the second, and from there to the
+// first, where only the numbers 2000 to 20ff are reserved.
 const TO_FOURTH: &str = "DROP TABLE closed5; DROP TABLE opened5; UPDATE meta SET version = 4";
 
 const TO_THIRD: &str =
@@ -34,9 +34,9 @@ const TIMED: &str =
     "INSERT INTO kept VALUES ('ann', 'k2', x'61736B0961636D65092D0950726F6265094D49540968747470733A2F2F61636D652E6578616D706C652F0968747470733A2F2F61636D652E6578616D706C652F', 'petition 1');
 INSERT INTO kept VALUES ('ann', 'k3', x'61736B0961636D6509303031320950726F6265094D49540968747470733A2F2F61636D652E6578616D706C652F0968747470733A2F2F61636D652E6578616D706C652F', 'petition 2');
 INSERT INTO kept VALUES ('cora', 'k4', x'6772616E740931092D', 'granted 0011 to acme by petition 1');
-INSERT INTO digests4 VALUES (2, '2026-11-29T12:00:00Z', printf('%064d', 2));
-INSERT INTO digests4 VALUES (3, NULL, printf('%064d', 3));
-INSERT INTO digests4 VALUES (4, '2026-11-29T13:30:00Z', printf('%064d', 4))";
+INSERT INTO digests4 VALUES (2, '2026-11-29T12:00:00Z', '0000000000000000000000000000000000000000000000000000000000000002');
+INSERT INTO digests4 VALUES (3, NULL, '0000000000000000000000000000000000000000000000000000000000000003');
+INSERT INTO digests4 VALUES (4, '2026-11-29T13:30:00Z', '0000000000000000000000000000000000000000000000000000000000000004')";
 
 const TIMES: &[&str] = &["SELECT * FROM opened5", "SELECT * FROM closed5"];
 

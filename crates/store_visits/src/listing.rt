@@ -44,7 +44,7 @@ pub fn write_listing<S: Alter>(registry: &mut Registry<S>, text: &mut String) ->
 }
 
 // All tables, each in the order of its key.
-const QUERIES: [&str; 16] = [
+const QUERIES: [&str; 18] = [
     "SELECT * FROM meta ORDER BY id",
     "SELECT * FROM curators ORDER BY name",
     "SELECT * FROM licences ORDER BY name",
