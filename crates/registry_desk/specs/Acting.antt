@@ -161,7 +161,7 @@ module _ {S : Type 0} {g : Ghosts S} where
     pub leaves : Leaves newest (state_of it) (IsEither h next)
     pub ends : EndsAt fault it h next
 
--- whether a message has one response: a page of the record needs requests with valid fields
+-- whether a message has one response: a petition, and a page or the head of the record, need requests with valid fields
 abbrev pub IsDetermined : History → Result Message HttpRefusal → Type 0
 IsDetermined h (Err refusal) = Unit {0}
 IsDetermined h (Ok (messages.Request request)) = Unit {0}
