@@ -1,0 +1,3 @@
+pub mod GetsLemmas
+pub mod LogLemmas
+pub mod SessionLemmas
