@@ -1,5 +1,5 @@
 -- What a message gets.
-use Rattle.std.proofs.Common.{◌≡◌, ℕ, List, Result, Ok, Err}
+use Rattle.std.proofs.Common.{◌≡◌, ℕ, List, Result, Ok, Err, subst}
 use Rattle.etcd_messages.specs.declared.endpoint.Endpoint.{Endpoint}
 use Rattle.etcd_messages.specs.declared.fault.AnswerFault.{AnswerFault}
 use Rattle.etcd_messages.specs.declared.fault.Unread.{Unread}
@@ -21,10 +21,14 @@ pub got_unsent : {C A : Type 0} (g : Ghosts C) (old new : Session C) (endpoint :
     → fault ≡ faults.NoMemory → new ≡ old → GetsNone g old new endpoint body reading fault
 got_unsent g old new endpoint body reading fault is same = not_sent is same
 
-pub got_unanswered : {C A : Type 0} (g : Ghosts C) (old new : Session C) (endpoint : Endpoint) (body : List ℕ) (reading : ℕ → List ℕ → Result A AnswerFault) (fault : CallFault)
-    → AskFails g old new endpoint body fault → GetsNone g old new endpoint body reading fault
-got_unanswered g old new endpoint body reading fault fails = not_answered fails
+pub got_unanswered : {C A : Type 0} (g : Ghosts C) (old new : Session C) (endpoint : Endpoint) (text body : List ℕ) (reading : ℕ → List ℕ → Result A AnswerFault) (fault : CallFault)
+    → AskFails g old new endpoint text fault → text ≡ body → GetsNone g old new endpoint body reading fault
+got_unanswered g old new endpoint text body reading fault fails is =
+    not_answered (subst (λ (t : List ℕ). AskFails g old new endpoint t fault) is fails)
 
-pub got_unread : {C A : Type 0} (g : Ghosts C) (old new : Session C) (endpoint : Endpoint) (body answer : List ℕ) (status : ℕ) (reading : ℕ → List ℕ → Result A AnswerFault) (unread : Unread) (fault : CallFault)
-    → Asks g old new endpoint body status answer → Gives (Err unread) (reading status answer) → fault ≡ call_fault unread → GetsNone g old new endpoint body reading fault
-got_unread g old new endpoint body answer status reading unread fault asks gives is = not_read status answer asks (has_fault (reading status answer) unread fault gives is)
+pub got_unread : {C A : Type 0} (g : Ghosts C) (old new : Session C) (endpoint : Endpoint) (text body bytes answer : List ℕ) (status : ℕ) (reading : ℕ → List ℕ → Result A AnswerFault) (unread : Unread) (fault : CallFault)
+    → Asks g old new endpoint text status answer → text ≡ body → Gives (Err unread) (reading status bytes) → bytes ≡ answer → fault ≡ call_fault unread
+    → GetsNone g old new endpoint body reading fault
+got_unread g old new endpoint text body bytes answer status reading unread fault asks sent gives came is =
+    not_read status answer (subst (λ (t : List ℕ). Asks g old new endpoint t status answer) sent asks)
+    (has_fault (reading status answer) unread fault (subst (λ (t : List ℕ). Gives (Err unread) (reading status t)) came gives) is)

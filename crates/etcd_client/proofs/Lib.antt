@@ -1,3 +1,4 @@
 pub mod GetsLemmas
 pub mod LogLemmas
+pub mod ResultLemmas
 pub mod SessionLemmas

@@ -34,10 +34,16 @@ fn is_visible(b: u8) -> bool
     matches!(b, b'!'..=b'~')
 }
 
+fn are_visible(text: &[u8]) -> bool
+    ensures { result ≡ list_all is_visible text.now }
+{
+    text.iter().all(|b| is_visible(*b))
+}
+
 fn is_host(text: &[u8]) -> bool
     ensures { result ≡ is_host text.now }
 {
-    !text.is_empty() && text.iter().all(|b| is_visible(*b))
+    !text.is_empty() && are_visible(text)
 }
 
 impl Host {
