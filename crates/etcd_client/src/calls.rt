@@ -19,7 +19,7 @@ use usbnum_core::Slug;
 const MOST_LINES: u32 = 1_000;
 
 /// Appends a line under a number to the log with this name.
-#[tactic(auto, using(crate::proofs::GetsLemmas::got, crate::proofs::GetsLemmas::got_unsent, crate::proofs::GetsLemmas::got_unanswered, crate::proofs::GetsLemmas::got_unread))]
+#[tactic(auto, using(crate::proofs::GetsLemmas::got, crate::proofs::GetsLemmas::got_unsent))]
 pub(crate) fn append<C: Connection>(
     alloc: Global,
     session: &mut Session<C>,
@@ -41,7 +41,7 @@ pub(crate) fn append<C: Connection>(
 }
 
 /// Reads lines of the log with this name, from a number on.
-#[tactic(auto, using(crate::proofs::GetsLemmas::got, crate::proofs::GetsLemmas::got_unsent, crate::proofs::GetsLemmas::got_unanswered, crate::proofs::GetsLemmas::got_unread))]
+#[tactic(auto, using(crate::proofs::GetsLemmas::got, crate::proofs::GetsLemmas::got_unsent))]
 pub(crate) fn page<C: Connection>(
     alloc: Global,
     session: &mut Session<C>,
@@ -62,7 +62,7 @@ pub(crate) fn page<C: Connection>(
 }
 
 /// Reads the head of the log with this name.
-#[tactic(auto, using(crate::proofs::GetsLemmas::got, crate::proofs::GetsLemmas::got_unsent, crate::proofs::GetsLemmas::got_unanswered, crate::proofs::GetsLemmas::got_unread))]
+#[tactic(auto, using(crate::proofs::GetsLemmas::got, crate::proofs::GetsLemmas::got_unsent))]
 pub(crate) fn head<C: Connection>(
     alloc: Global,
     session: &mut Session<C>,

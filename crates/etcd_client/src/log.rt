@@ -69,7 +69,7 @@ impl<C: Connection> Log for EtcdLog<C> {
 
     ghost fails = { λ s t. Fails C.Connection s t };
 
-    #[tactic(auto, using(crate::proofs::LogLemmas::appends, crate::proofs::LogLemmas::append_failed, crate::proofs::LogLemmas::append_is_failure))]
+    #[tactic(auto, using(crate::proofs::LogLemmas::appends))]
     fn append(&mut self, alloc: Global, n: u32, line: &[u8]) -> Result<AppendAnswer, LogFault>
         ensures appends { IfOk result (Appends C.Connection self.old self.new n line.now) }
         ensures failed { OnErr result (Fails C.Connection self.old self.new) }
@@ -81,7 +81,7 @@ impl<C: Connection> Log for EtcdLog<C> {
         }
     }
 
-    #[tactic(auto, using(crate::proofs::LogLemmas::reads, crate::proofs::LogLemmas::read_failed, crate::proofs::LogLemmas::read_is_failure))]
+    #[tactic(auto, using(crate::proofs::LogLemmas::reads))]
     fn page(&mut self, alloc: Global, n: u32) -> Result<PageAnswer, LogFault>
         ensures reads { IfOk result (Reads C.Connection self.old self.new n) }
         ensures failed { OnErr result (Fails C.Connection self.old self.new) }
@@ -93,7 +93,7 @@ impl<C: Connection> Log for EtcdLog<C> {
         }
     }
 
-    #[tactic(auto, using(crate::proofs::LogLemmas::looks, crate::proofs::LogLemmas::look_failed, crate::proofs::LogLemmas::look_is_failure))]
+    #[tactic(auto, using(crate::proofs::LogLemmas::looks))]
     fn head(&mut self, alloc: Global) -> Result<HeadAnswer, LogFault>
         ensures looks { IfOk result (LooksAt C.Connection self.old self.new) }
         ensures failed { OnErr result (Fails C.Connection self.old self.new) }

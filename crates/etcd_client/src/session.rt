@@ -38,7 +38,7 @@ fn login_text(alloc: Global, user: Option<&User>) -> Result<Option<String>, NoMe
 impl<C: Connection> Session<C> {
     // Sends a message with the token, if there is one, and returns its answer. The connection is kept if another message
     // may be sent on it.
-    #[tactic(auto, using(crate::proofs::SessionLemmas::talked, crate::proofs::SessionLemmas::got_no_answer, crate::proofs::SessionLemmas::was_not_sent))]
+    #[tactic(auto, using(crate::proofs::SessionLemmas::talked, crate::proofs::SessionLemmas::was_not_sent))]
     fn talk(&mut self, alloc: Global, endpoint: Endpoint, body: &str) -> Result<Answer, CallFault>
         ensures ok { IfOk result (λ answer. Talks C.Connection self.old self.new endpoint body.now answer.status answer.body.items) }
         ensures err { IfErr result (TalkFails C.Connection self.old self.new endpoint body.now) }
@@ -56,7 +56,6 @@ impl<C: Connection> Session<C> {
     }
 
     // Logs the user in by this message, and keeps the token.
-    #[tactic(auto, using(crate::proofs::SessionLemmas::logged_in, crate::proofs::SessionLemmas::login_unanswered, crate::proofs::SessionLemmas::login_unread))]
     fn log_in(&mut self, alloc: Global, body: &str) -> Result<(), CallFault>
         ensures ok { OnOk result (LogsIn C.Connection self.old self.new body.now) }
         ensures err { IfErr result (LoginFails C.Connection self.old self.new body.now) }
@@ -74,7 +73,7 @@ impl<C: Connection> Session<C> {
     }
 
     // Logs the user in, if there is one and no token.
-    #[tactic(auto, using(crate::proofs::SessionLemmas::token_there, crate::proofs::SessionLemmas::nobody, crate::proofs::SessionLemmas::token_taken, crate::proofs::SessionLemmas::no_login_message, crate::proofs::SessionLemmas::login_failed))]
+    #[tactic(auto, using(crate::proofs::SessionLemmas::token_there, crate::proofs::SessionLemmas::nobody, crate::proofs::SessionLemmas::no_login_message))]
     fn get_token(&mut self, alloc: Global) -> Result<(), CallFault>
         ensures ok { OnOk result (GetsToken C.Connection self.old self.new) }
         ensures err { IfErr result (TokenFails C.Connection self.old self.new) }
@@ -89,7 +88,6 @@ impl<C: Connection> Session<C> {
     }
 
     // Sends a message as the user, if there is one, and returns its answer.
-    #[tactic(auto, using(crate::proofs::SessionLemmas::was_sent, crate::proofs::SessionLemmas::had_no_token, crate::proofs::SessionLemmas::had_no_reply))]
     fn send(&mut self, alloc: Global, endpoint: Endpoint, body: &str) -> Result<Answer, CallFault>
         ensures ok { IfOk result (λ answer. Sends C.Connection self.old self.new endpoint body.now answer.status answer.body.items) }
         ensures err { IfErr result (SendFails C.Connection self.old self.new endpoint body.now) }
@@ -108,7 +106,7 @@ impl<C: Connection> Session<C> {
     }
 
     /// Sends a message, and returns its answer. If the token is refused, logs the user in again, and sends it once more.
-    #[tactic(auto, using(crate::proofs::SessionLemmas::asked_at_once, crate::proofs::SessionLemmas::was_refused, crate::proofs::SessionLemmas::asked_again, crate::proofs::SessionLemmas::failed_at_once, crate::proofs::SessionLemmas::failed_again))]
+    #[tactic(auto, using(crate::proofs::SessionLemmas::asked_at_once))]
     pub fn ask(
         &mut self,
         alloc: Global,
