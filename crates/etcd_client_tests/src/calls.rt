@@ -137,23 +137,46 @@ fn user_of(alloc: Global, name: &str, password: &str) -> Result<User, RowFault> 
     ))
 }
 
-// Makes the calls of a row, and returns what they answer. What was done with the connection is put behind the bytes.
-fn answers_of(alloc: Global, text: &str, done: &mut Vec<u8>) -> Result<Vec<u8>, RowFault> {
-    let (name, rest) = cut(text)?;
-    let (calls, steps) = cut(rest)?;
-    let (name, user) = match name.split_once('@') {
-        Some((name, password)) => (name, Some(user_of(alloc, name, password)?)),
-        None => (name, None),
-    };
-    let name = Slug::new(alloc, name.as_bytes())?.ok_or(RowFault::BadRow)?;
-    let host = Host::new(alloc, "etcd:2379")?.ok_or(RowFault::BadRow)?;
-    let mut log = EtcdLog::new(Script::new(alloc, steps, done)?, host, name, user);
+// Returns the name of the log, without the password.
+fn name_in(text: &str) -> &str {
+    match text.split_once('@') {
+        Some((name, _)) => name,
+        None => text,
+    }
+}
+
+// Returns the user who logs in, if there is a password.
+fn user_in(alloc: Global, text: &str) -> Result<Option<User>, RowFault> {
+    match text.split_once('@') {
+        Some((name, password)) => Ok(Some(user_of(alloc, name, password)?)),
+        None => Ok(None),
+    }
+}
+
+// Makes the calls, and returns what they answer.
+fn answered(
+    alloc: Global,
+    log: &mut EtcdLog<Script<'_>>,
+    calls: &str,
+) -> Result<Vec<u8>, RowFault> {
     let mut text = Vec::new(alloc);
     for call in calls.split(";") {
-        text.extend_from_slice(&called(alloc, &mut log, call)?)?;
+        text.extend_from_slice(&called(alloc, log, call)?)?;
         text.push(b';')?;
     }
     Ok(text)
+}
+
+// Makes the calls of a row, and returns what they answer. What was done with the connection is put behind the bytes.
+fn answers_of(alloc: Global, text: &str, done: &mut Vec<u8>) -> Result<Vec<u8>, RowFault> {
+    let (head, rest) = cut(text)?;
+    let (calls, steps) = cut(rest)?;
+    let script = Script::new(alloc, steps, done)?;
+    let user = user_in(alloc, head)?;
+    let name = Slug::new(alloc, name_in(head).as_bytes())?.ok_or(RowFault::BadRow)?;
+    let host = Host::new(alloc, "etcd:2379")?.ok_or(RowFault::BadRow)?;
+    let mut log = EtcdLog::new(script, host, name, user);
+    answered(alloc, &mut log, calls)
 }
 
 /// Shows what the calls of a row answer.
