@@ -13,13 +13,26 @@ use std::alloc::Global;
 use usbnum_core::NoMemory;
 
 /// A connection to etcd that is kept open, and the user as whom messages are sent over it.
-#[derive(Drop)]
 pub(crate) struct Session<C: Connection> {
     pub connection: C,
     pub is_kept: bool,
     pub host: Host,
     pub user: Option<User>,
     pub token: Option<Token>,
+}
+
+// By hand, so that a function that drops a log calls one function for its session: the borrow checker does not cover what a
+// derive writes there.
+impl<C: Connection + Drop> Drop for Session<C> {
+    fn drop(self) {
+        let Session {
+            connection: _,
+            is_kept: _,
+            host: _,
+            user: _,
+            token: _,
+        } = self;
+    }
 }
 
 // Returns the body of the message that logs a user in, if there is one.
