@@ -50,16 +50,16 @@ module _ {X : Type 0} where
       either_of x y xs ys first (two_beginnings xs ys rest others left)
 
   -- a list with as many elements as a beginning of it has no more
-  whole_beginning : (xs more : List X) → length (xs ++ more) ≡ length xs → xs ++ more ≡ xs
+  pub whole_beginning : (xs more : List X) → length (xs ++ more) ≡ length xs → xs ++ more ≡ xs
   whole_beginning [] [] same = refl
   whole_beginning [] (m ∷ more) same = absurd (omega (arith, same))
   whole_beginning (x ∷ xs) more same = ap (λ l. x ∷ l) (whole_beginning xs more (omega (arith, same)))
 
-  appended_twice : (xs ys zs : List X) → (xs ++ ys) ++ zs ≡ xs ++ (ys ++ zs)
+  pub appended_twice : (xs ys zs : List X) → (xs ++ ys) ++ zs ≡ xs ++ (ys ++ zs)
   appended_twice [] ys zs = refl
   appended_twice (x ∷ xs) ys zs = ap (λ l. x ∷ l) (appended_twice xs ys zs)
 
-  in_beginning : (xs more : List X) (n : ℕ) → n < length xs → slice_get (xs ++ more) n ≡ slice_get xs n
+  pub in_beginning : (xs more : List X) (n : ℕ) → n < length xs → slice_get (xs ++ more) n ≡ slice_get xs n
   in_beginning [] more n lt = absurd (omega (arith, lt))
   in_beginning (x ∷ xs) more zero lt = refl
   in_beginning (x ∷ xs) more (suc n) lt = in_beginning xs more n (omega (arith, lt))
@@ -86,7 +86,7 @@ module _ {A B : Type 0} (f : A → B) (P : A → Type 0) (own : (a b : A) → P 
 
 -- ---- one history goes on from the other
 
-after_both : (h : History) (rs ss : List Request) → after h (rs ++ ss) ≡ after (after h rs) ss
+pub after_both : (h : History) (rs ss : List Request) → after h (rs ++ ss) ≡ after (after h rs) ss
 after_both h [] ss = refl
 after_both h (r ∷ rs) ss = after_both (after_one h r) rs ss
 
@@ -167,7 +167,7 @@ each_request log h of_h accepted valid n lt at =
 
 -- ---- an append
 
-record_with : (h : History) (deed : Deed) → record_of (with_deed h deed) ≡ record_of h ++ accepted_line (accepted_by deed) ∷ []
+pub record_with : (h : History) (deed : Deed) → record_of (with_deed h deed) ≡ record_of h ++ accepted_line (accepted_by deed) ∷ []
 record_with h deed = ap (λ (l : LogLines). founding_line h.founding ∷ l) (mapped accepted_line (accepted_of h.deeds) (accepted_by deed ∷ []))
 
 pub begins_with_appended : BeginsWithAppended

@@ -1,0 +1,382 @@
+-- A registry that follows a log.
+use Rattle.std.proofs.Common.{◌≡◌, ◌≢◌, ◌≤◌, ◌<◌, ◌⊎◌, ◌∙◌, ◌+◌, ◌-◌, ℕ, zero, suc, List, [], ◌∷◌, ◌++◌, length, drop, slice_get, Option, Some, None, Bool, true, false, inl, inr, Result, Ok, Err, refl, sym, ap, subst, arith}
+use Rattle.std.specs.Prelude.{is_some}
+use Rattle.std.proofs.lemmas.List.{append-nil, length-append}
+use Rattle.std.proofs.lemmas.Option.{slice_get_within}
+use Rattle.std.proofs.Math.Seq.{drop-append_seam}
+use Rattle.sqlite.specs.Store.{Ghosts}
+use Rattle.sqlite.specs.State.{State, HasCleanDisk}
+use Rattle.registry_rules.specs.History.{History, with_deed}
+use Rattle.registry_rules.specs.Reply.{act_text}
+use Rattle.registry_rules.specs.Run.{Legal, after, after_one, after_verdict, reply_of, reply_to}
+use Rattle.registry_rules.specs.Verdict.{verdict}
+use Rattle.registry_rules.specs.declared.deed.Deed.{Deed}
+use Rattle.registry_rules.specs.declared.order.Request.{Request}
+use Rattle.registry_rules.specs.declared.verdict.Reply.{Reply}
+use Rattle.registry_rules.specs.declared.verdict.Reply.TheVariants.{Done}
+use Rattle.registry_rules.specs.declared.verdict.Verdict.{Verdict}
+use Rattle.registry_rules.specs.declared.verdict.Verdict.TheVariants.{Kept, Refused, New}
+use Rattle.registry_rules.proofs.RunLemmas.{legal_after}
+use Rattle.registry_wire.specs.Record.{accepted_line}
+use Rattle.registry_laws.specs.Machines.{BeginsWith, HasValidFields, IsOfMachine, LeadsTo}
+use Rattle.registry_laws.specs.Records.{record_of}
+use Rattle.registry_laws.proofs.MachineLemmas.{appended_twice, whole_beginning}
+use Rattle.registry_tables.specs.Rows.{newest}
+use Rattle.registry_store.specs.Promise.{Leaves, Represents, poisoned_by, state_of}
+use Rattle.registry_store.specs.Queries.{IsUntouched}
+use Rattle.registry_store.specs.Witness.{WasSeen, IsHeard}
+use Rattle.registry_store.specs.declared.fault.Fault.{Fault}
+use Rattle.registry_store.specs.declared.registry.Registry.{Registry}
+use Rattle.shared_log.specs.Calls.{LogLines, AppendMeans, AtSomeInstant, Grows, IsKept, IsPage, WasAppended}
+use Rattle.shared_log.specs.declared.answers.AppendAnswer.TheVariants as answers
+use Rattle.shared_log.specs.declared.answers.PageAnswer.{PageAnswer}
+use Rattle.shared_log.specs.declared.fault.LogFault.{LogFault}
+use Rattle.shared_log.specs.declared.log.Log.{Ghosts as LogGhosts}
+use Rattle.shared_registry.specs.declared.cursor.AppendFault.TheVariants as faults
+use Rattle.shared_registry.specs.declared.cursor.Cursor.{Cursor}
+use Rattle.shared_registry.specs.declared.stop.ShareStop.{ShareStop}
+use Rattle.shared_registry.specs.declared.stop.ShareStop.TheVariants as stops
+use Rattle.shared_registry.specs.Cursors.{HasLine, HasNoLine, IsSamePlace, WasNotTaken, WasShown, accepted_as}
+use Rattle.shared_registry.specs.Follows.{Follows, FollowsLater, HasActed, HasFailed, HasFollowed, HasFollowedPage, HasOther, IsAnswered, IsLeft, WasWhole}
+use Rattle.shared_registry.specs.Lines.{Continues, ContinuesBy, GoesOver, IsStoppedBefore, IsStoppedIn}
+use Rattle.shared_registry.proofs.LineLemmas.{after_new, continued, leads_nowhere, leads_on, over_both, over_none, over_one}
+
+-- ---- lists that grow
+
+pub grows_none : (log : LogLines) → Grows log log
+grows_none log = ([], sym (append-nil log))
+
+pub grows_on : (a b c : LogLines) → Grows a b → Grows b c → Grows a c
+grows_on a b c one two = (one.0 ++ two.0, two.1 ∙ ap (λ (l : LogLines). l ++ two.0) one.1 ∙ appended_twice a one.0 two.0)
+
+-- with one more line the list has grown
+grows_by : (log : LogLines) (line : List ℕ) (new : LogLines) → Grows (log ++ line ∷ []) new → Grows log new
+grows_by log line new it = grows_on log (log ++ line ∷ []) new (line ∷ [], refl) it
+
+-- what lies behind a beginning
+behind : (log front more : LogLines) (n : ℕ) → log ≡ front ++ more → n ≡ length front → drop n log ≡ more
+behind log front more n is at = subst (λ (k : ℕ). drop k log ≡ more) (sym at) (ap (drop (length front)) is ∙ drop-append_seam front more)
+
+-- the line behind a beginning
+line_behind : (front more : LogLines) (line : List ℕ) → slice_get (front ++ line ∷ more) (length front) ≡ Some line
+line_behind [] more line = refl
+line_behind (f ∷ front) more line = line_behind front more line
+
+-- a list with this line behind a beginning goes on with it
+with_line : (front more : LogLines) (line : List ℕ) → slice_get (front ++ more) (length front) ≡ Some line → (rest : LogLines) × (front ++ more ≡ (front ++ line ∷ []) ++ rest)
+with_line [] [] line at = absurd (let none : None ≡ Some line = at in cc)
+with_line [] (m ∷ more) line at = (more, (let same : m ≡ line = cc in ap (λ (l : List ℕ). l ∷ more) same))
+with_line (f ∷ front) more line at = let it = with_line front more line at in (it.0, ap (λ (l : LogLines). f ∷ l) it.1)
+
+longer : (a b : LogLines) → Grows a b → length a ≤ length b
+longer a b it = let same : length b ≡ length a + length it.0 = ap length it.1 ∙ length-append a it.0 in omega (arith, same)
+
+-- the property held at an instant of a longer call
+pub earlier_start : (first old new : LogLines) (P : LogLines → Type 0) → Grows first old → AtSomeInstant old new P → AtSomeInstant first new P
+earlier_start first old new P grown it = record { instant = it.instant; before = grows_on first old it.instant grown it.before; after = it.after; held = it.held }
+
+pub later_end : (old mid new : LogLines) (P : LogLines → Type 0) → AtSomeInstant old mid P → Grows mid new → AtSomeInstant old new P
+later_end old mid new P it grown = record { instant = it.instant; before = it.before; after = grows_on it.instant mid new it.after grown; held = it.held }
+
+at_instant_grows : (old new : LogLines) (P : LogLines → Type 0) → AtSomeInstant old new P → Grows old new
+at_instant_grows old new P it = grows_on old it.instant new it.before it.after
+
+-- ---- a history of a machine that shares the log
+
+-- the log has grown
+pub still_of : (log new : LogLines) (h : History) → IsOfMachine log h → Grows log new → IsOfMachine new h
+still_of log new h of grown = record { legal = of.legal; valid = of.valid; begins = grows_on (record_of h) log new of.begins grown }
+
+pub legal_later : (h x : History) → Legal h → LeadsTo h x → Legal x
+legal_later h x legal leads = subst Legal (sym leads.1) (legal_after h leads.0 legal)
+
+-- lines were acted on, with which the log goes on
+pub of_machine : (log new : LogLines) (h x : History) (lines : LogLines) → IsOfMachine log h → GoesOver h lines x → Grows (record_of h ++ lines) new → IsOfMachine new x
+of_machine log new h x lines of over grown = record {
+  legal = legal_later h x of.legal over.leads;
+  valid = over.valid of.valid;
+  begins = subst (λ (l : LogLines). Grows l new) (sym over.written) grown;
+}
+
+-- ---- a page
+
+-- A page that was read: the log at an instant is the record with its lines, and then the rest.
+pub record IsRead (log new : LogLines) (h : History) (page : PageAnswer) : Type 0 where
+  pub rest : LogLines
+  pub there : AtSomeInstant log new (λ it. it ≡ record_of h ++ (page.lines ++ rest))
+  pub last : page.more ≡ false → rest ≡ []
+
+pub is_read : (log new : LogLines) (h : History) (n : ℕ) (page : PageAnswer) → BeginsWith log h → n ≡ length (record_of h) → AtSomeInstant log new (IsPage n page) → IsRead log new h page
+is_read log new h n page begins at it =
+    let front = record_of h in
+    let more = begins.0 ++ it.before.0 in
+    let is : it.instant ≡ front ++ more = it.before.1 ∙ ap (λ (l : LogLines). l ++ it.before.0) begins.1 ∙ appended_twice front begins.0 it.before.0 in
+    let same : more ≡ page.lines ++ it.held.0 = sym (behind it.instant front more n is at) ∙ it.held.1 in
+    record {
+      rest = it.held.0;
+      there = record { instant = it.instant; before = it.before; after = it.after; held = is ∙ ap (λ (l : LogLines). front ++ l) same };
+      last = it.held.2;
+    }
+
+-- the lines of the page begin the log, behind the record
+grows_over : (log new : LogLines) (h : History) (page : PageAnswer) (front back : LogLines) → IsRead log new h page → page.lines ≡ front ++ back → Grows (record_of h ++ front) new
+grows_over log new h page front back it split =
+    let is : it.there.instant ≡ (record_of h ++ front) ++ (back ++ it.rest) =
+    it.there.held ∙ ap (λ (l : LogLines). record_of h ++ (l ++ it.rest)) split ∙ ap (λ (l : LogLines). record_of h ++ l) (appended_twice front back it.rest) ∙ sym (appended_twice (record_of h) front (back ++ it.rest)) in
+    grows_on (record_of h ++ front) it.there.instant new (back ++ it.rest, is) it.there.after
+
+module _ {S : Type 0} {g : Ghosts S} {L : Type 0} (l : LogGhosts L) (lines : L → LogLines) where
+  -- a whole page was acted on
+  pub page_followed : (old : Registry S g) (c : Cursor L) (new : Registry S g) (c_new : Cursor L) (h x : History) (page : PageAnswer) → Follows l lines old c h → IsRead (lines c.log) (lines c_new.log) h page
+      → GoesOver h page.lines x → Represents new x → c_new.next ≡ c.next + length page.lines → HasFollowedPage l lines c new c_new h page.more
+  page_followed old c new c_new h x page follows read over now counted = record {
+    now = x;
+    leads = over.leads;
+    follows = record {
+      represents = now;
+      of_machine = of_machine (lines c.log) (lines c_new.log) h x page.lines follows.of_machine over (grows_over _ _ h page page.lines [] read (sym (append-nil page.lines)));
+      next = counted ∙ ap (λ (n : ℕ). n + length page.lines) follows.next ∙ sym (length-append (record_of h) page.lines) ∙ ap length (sym over.written);
+    };
+    whole = λ none. record {
+      instant = read.there.instant;
+      before = read.there.before;
+      after = read.there.after;
+      held = read.there.held ∙ ap (λ (r : LogLines). record_of h ++ (page.lines ++ r)) (read.last none) ∙ ap (λ (r : LogLines). record_of h ++ r) (append-nil page.lines) ∙ sym over.written;
+    };
+  }
+
+  -- what a crash may leave where the line may have been acted on
+  left_one : (c_new : Cursor L) (s : State) (h last : History) (line : List ℕ) → LeadsTo h last → IsOfMachine (lines c_new.log) last → Grows (record_of last ++ line ∷ []) (lines c_new.log)
+      → Leaves newest s (λ x. (x ≡ last) ⊎ Continues last line x) → Leaves newest s (λ x. IsOfMachine (lines c_new.log) x × LeadsTo h x)
+  left_one c_new s h last line leads of grown leaves db may =
+      let it = leaves db may in
+      let x = it.0 in (
+        x,
+        elim it.1 [
+          | inl same ↦ (subst (IsOfMachine (lines c_new.log)) (sym same) of, subst (LeadsTo h) (sym same) leads)
+          | inr by ↦ (let over = over_one last by.0 line x by.1 in (of_machine (lines c_new.log) (lines c_new.log) last x (line ∷ []) of over grown, leads_on h last x leads over.leads))
+        ],
+        it.2,
+      )
+
+  -- what stopped it before a line is left so
+  stopped_at : (c : Cursor L) (new : Registry S g) (c_new : Cursor L) (h last : History) (rest more : LogLines) (now : ℕ) → LeadsTo h last → IsOfMachine (lines c_new.log) last → c_new.next ≡ length (record_of last) → now ≡ c_new.next
+      → AtSomeInstant (lines c.log) (lines c_new.log) (λ log. log ≡ record_of last ++ (rest ++ more)) → (stop : ShareStop) → IsStoppedBefore new last rest now stop → IsLeft l lines c new c_new h stop
+  stopped_at c new c_new h last [] more now leads of next at there stop it = absurd it
+  stopped_at c new c_new h last (line ∷ others) more now leads of next at there (stops.Registry fault) it = (
+    it.0,
+    left_one c_new (state_of new) h last line leads of
+        (grows_on (record_of last ++ line ∷ []) there.instant (lines c_new.log) (others ++ more, there.held ∙ sym (appended_twice (record_of last) (line ∷ []) (others ++ more))) there.after) it.1,
+  )
+  stopped_at c new c_new h last (line ∷ others) more now leads of next at there (stops.OtherRecord n) it = (
+    last,
+    leads,
+    record { represents = it.1; of_machine = of; next = next },
+    it.0 ∙ at ∙ next,
+    record {
+      line = line;
+      there = record {
+        instant = there.instant;
+        before = there.before;
+        after = there.after;
+        held = ap (λ (log : LogLines). slice_get log n) there.held ∙ ap (slice_get (record_of last ++ line ∷ (others ++ more))) (it.0 ∙ at ∙ next) ∙ line_behind (record_of last) (others ++ more) line;
+      };
+      other = it.2;
+    },
+  )
+  stopped_at c new c_new h last (line ∷ others) more now leads of next at there stops.Full it = ((last, leads, record { represents = it.0; of_machine = of; next = next }), sym at ∙ it.1)
+  stopped_at c new c_new h last (line ∷ others) more now leads of next at there stops.NoMemory it = (last, leads, record { represents = it; of_machine = of; next = next })
+  stopped_at c new c_new h last (line ∷ others) more now leads of next at there (stops.Log fault) it = absurd it
+  stopped_at c new c_new h last (line ∷ others) more now leads of next at there stops.Ahead it = absurd it
+
+  -- a page was acted on up to what stopped it
+  pub page_stopped : (old : Registry S g) (c : Cursor L) (new : Registry S g) (c_new : Cursor L) (h : History) (page : PageAnswer) → Follows l lines old c h → IsRead (lines c.log) (lines c_new.log) h page
+      → (stop : ShareStop) → IsStoppedIn new h page.lines c.next c_new.next stop → IsLeft l lines c new c_new h stop
+  page_stopped old c new c_new h page follows read stop it =
+      let there = read.there in
+      stopped_at c new c_new h it.last it.rest read.rest c_new.next it.over.leads
+      (of_machine (lines c.log) (lines c_new.log) h it.last it.front follows.of_machine it.over (grows_over _ _ h page it.front it.rest read it.split))
+      (it.counted ∙ ap (λ (n : ℕ). n + length it.front) follows.next ∙ sym (length-append (record_of h) it.front) ∙ ap length (sym it.over.written)) refl
+      (record {
+        instant = there.instant;
+        before = there.before;
+        after = there.after;
+        held = there.held ∙ ap (λ (p : LogLines). record_of h ++ (p ++ read.rest)) it.split ∙ ap (λ (p : LogLines). record_of h ++ p) (appended_twice it.front it.rest read.rest)
+            ∙ sym (appended_twice (record_of h) it.front (it.rest ++ read.rest)) ∙ ap (λ (p : LogLines). p ++ (it.rest ++ read.rest)) (sym it.over.written);
+      }) stop it.stopped
+
+  -- ---- calls one after another
+
+  -- nothing but the log has changed, which has grown
+  pub still_follows : (old : Registry S g) (c : Cursor L) (new : Registry S g) (c_new : Cursor L) (h : History) → Follows l lines old c h → Represents new h → Grows (lines c.log) (lines c_new.log) → c_new.next ≡ c.next → Follows l lines new c_new h
+  still_follows old c new c_new h follows stays grown same =
+      record { represents = stays; of_machine = still_of (lines c.log) (lines c_new.log) h follows.of_machine grown; next = same ∙ follows.next }
+
+  failed_since : (start c : L) (now : L) (fault : LogFault) → Grows (lines start) (lines c) → HasFailed l lines c now fault → HasFailed l lines start now fault
+  failed_since start c now fault grown it = record { old = it.old; grown = grows_on (lines start) (lines c) (lines it.old) grown it.grown; failed = it.failed }
+
+  -- what a later call left is what the calls together left
+  pub left_since : (start c : Cursor L) (new : Registry S g) (c_new : Cursor L) (h now : History) → Grows (lines start.log) (lines c.log) → LeadsTo h now → (stop : ShareStop) → IsLeft l lines c new c_new now stop → IsLeft l lines start new c_new h stop
+  left_since start c new c_new h now grown leads (stops.Registry fault) it = (it.0, λ db may. let x = it.1 db may in (x.0, (x.1.0, leads_on h now x.0 leads x.1.1), x.2))
+  left_since start c new c_new h now grown leads (stops.Log fault) it = ((it.0.0, leads_on h now it.0.0 leads it.0.1, it.0.2), failed_since start.log c.log c_new.log fault grown it.1)
+  left_since start c new c_new h now grown leads (stops.OtherRecord n) it = (
+    it.0,
+    leads_on h now it.0 leads it.1,
+    it.2,
+    it.3,
+    record { line = it.4.line; there = earlier_start (lines start.log) (lines c.log) (lines c_new.log) _ grown it.4.there; other = it.4.other },
+  )
+  left_since start c new c_new h now grown leads stops.Ahead it = it
+  left_since start c new c_new h now grown leads stops.Full it = ((it.0.0, leads_on h now it.0.0 leads it.0.1, it.0.2), it.1)
+  left_since start c new c_new h now grown leads stops.NoMemory it = (it.0, leads_on h now it.0 leads it.1, it.2)
+
+  -- ---- an append
+
+  append_grows : (n : ℕ) (line : List ℕ) (answer : _) (old new : LogLines) → AppendMeans n line answer old new → Grows old new
+  append_grows n line answers.Appended old new it = grows_on old it.instant new it.before (grows_by it.instant line new it.after)
+  append_grows n line (answers.Taken other) old new it = at_instant_grows old new (λ log. slice_get log n ≡ Some other) it
+  append_grows n line answers.Behind old new it = at_instant_grows old new (λ log. length log < n) it
+
+  module _ (kept : IsKept l lines) (c c_new : Cursor L) where
+    line_grows : (line : List ℕ) → HasLine l c c_new line → Grows (lines c.log) (lines c_new.log)
+    line_grows line it = elim it.told [
+      | inl appended ↦ append_grows c.next line answers.Appended _ _ (kept.appends c.log c_new.log c.next line answers.Appended appended)
+      | inr taken ↦ append_grows c.next line (answers.Taken line) _ _ (kept.appends c.log c_new.log c.next line (answers.Taken line) taken)
+    ]
+
+    same_grows : c_new ≡ c → Grows (lines c.log) (lines c_new.log)
+    same_grows same = subst (λ (d : Cursor L). Grows (lines c.log) (lines d.log)) (sym same) (grows_none (lines c.log))
+
+    pub no_line_grows : (line : List ℕ) (fault : _) → HasNoLine l c c_new line fault → Grows (lines c.log) (lines c_new.log)
+    no_line_grows line faults.Taken it = append_grows c.next line (answers.Taken it.0.0) _ _ (kept.appends c.log c_new.log c.next line (answers.Taken it.0.0) it.0.2)
+    no_line_grows line faults.Behind it = append_grows c.next line answers.Behind _ _ (kept.appends c.log c_new.log c.next line answers.Behind it.0)
+    no_line_grows line faults.Full it = same_grows it.0
+    no_line_grows line faults.NoMemory it = same_grows it
+    no_line_grows line (faults.Log fault) it = kept.fails c.log c_new.log it.0
+
+    pub no_line_next : (line : List ℕ) (fault : _) → HasNoLine l c c_new line fault → c_new.next ≡ c.next
+    no_line_next line faults.Taken it = ap (λ (d : Cursor L). d.next) it.1
+    no_line_next line faults.Behind it = ap (λ (d : Cursor L). d.next) it.1
+    no_line_next line faults.Full it = ap (λ (d : Cursor L). d.next) it.0
+    no_line_next line faults.NoMemory it = ap (λ (d : Cursor L). d.next) it
+    no_line_next line (faults.Log fault) it = ap (λ (d : Cursor L). d.next) it.1
+
+    -- the log begins with these lines, and the next one is behind them
+    module _ (front : LogLines) (begins : Grows front (lines c.log)) (next : c.next ≡ length front) where
+      from_here : (instant : LogLines) → Grows (lines c.log) instant → Grows front instant
+      from_here instant grown = grows_on front (lines c.log) instant begins grown
+
+      -- the log goes on with the line that it took
+      pub line_taken : (line : List ℕ) → HasLine l c c_new line → Grows (front ++ line ∷ []) (lines c_new.log)
+      line_taken line it = elim it.told [
+        | inl appended ↦ (
+            let means = kept.appends c.log c_new.log c.next line answers.Appended appended in
+            let more = from_here means.instant means.before in
+            let long : length (front ++ more.0) ≡ length front = ap length (sym more.1) ∙ means.next ∙ next in
+            let whole : means.instant ≡ front = more.1 ∙ whole_beginning front more.0 long in
+            subst (λ (log : LogLines). Grows (log ++ line ∷ []) (lines c_new.log)) whole means.after
+            )
+        | inr taken ↦ (
+            let means = kept.appends c.log c_new.log c.next line (answers.Taken line) taken in
+            let more = from_here means.instant means.before in
+            let at : slice_get (front ++ more.0) (length front) ≡ Some line = ap (λ (log : LogLines). slice_get log (length front)) (sym more.1) ∙ ap (slice_get means.instant) (sym next) ∙ means.held in
+            let on = with_line front more.0 line at in
+            grows_on (front ++ line ∷ []) means.instant (lines c_new.log) (on.0, more.1 ∙ on.1) means.after
+            )
+      ]
+
+      -- another line is behind them
+      pub other_is_there : (line : List ℕ) → HasNoLine l c c_new line faults.Taken → length front < length (lines c_new.log)
+      other_is_there line it =
+          let means = kept.appends c.log c_new.log c.next line (answers.Taken it.0.0) it.0.2 in
+          let within = slice_get_within means.instant c.next it.0.0 means.held in
+          let long = longer means.instant (lines c_new.log) means.after in
+          omega (arith, within, long, next)
+
+      -- the log has them, so it is not behind
+      pub is_not_behind : (line : List ℕ) → HasNoLine l c c_new line faults.Behind → ⊥
+      is_not_behind line it =
+          let means = kept.appends c.log c_new.log c.next line answers.Behind it.0 in
+          let long = longer front means.instant (from_here means.instant means.before) in
+          omega (arith, means.held, long, next)
+
+  -- ---- a request
+
+  module _ (kept : IsKept l lines) (old : Registry S g) (c : Cursor L) (new : Registry S g) (c_new : Cursor L) (h : History) (r : Request) (follows : Follows l lines old c h) where
+    over_shown : (deed : Deed) → verdict h r ≡ New deed → (shown : WasShown l c c_new r (act_text deed.act)) → GoesOver h (accepted_line (accepted_as r (act_text deed.act)) ∷ []) (with_deed h deed)
+    over_shown deed is shown = over_one h r (accepted_line (accepted_as r (act_text deed.act))) (with_deed h deed) (continued h r deed _ is shown.valid refl)
+
+    shown_of : (deed : Deed) → verdict h r ≡ New deed → WasShown l c c_new r (act_text deed.act) → IsOfMachine (lines c_new.log) (with_deed h deed)
+    shown_of deed is shown =
+        of_machine (lines c.log) (lines c_new.log) h (with_deed h deed) _ follows.of_machine (over_shown deed is shown) (line_taken kept c c_new (record_of h) follows.of_machine.begins follows.next _ shown.line)
+
+    shown_next : (deed : Deed) → verdict h r ≡ New deed → WasShown l c c_new r (act_text deed.act) → c_new.next ≡ length (record_of (with_deed h deed))
+    shown_next deed is shown =
+        let passed : c_new.next ≡ suc c.next = ap (λ (d : Cursor L). d.next) shown.line.passed in
+        let long : length (record_of (with_deed h deed)) ≡ length (record_of h) + 1 = ap length (over_shown deed is shown).written ∙ length-append (record_of h) (accepted_line (accepted_as r (act_text deed.act)) ∷ []) in
+        omega (arith, passed, long, follows.next)
+
+    -- the call of the witness, if the request is new
+    abbrev pub WasAskedIfNew : (Deed → Type 0) → Type 0
+    WasAskedIfNew Heard = (c_new ≡ c) ⊎ ((deed : Deed) × (verdict h r ≡ New deed) × Heard deed)
+
+    same_after : c_new ≡ c → Represents new h → Follows l lines new c_new h
+    same_after same stays = still_follows old c new c_new h follows stays (same_grows kept c c_new same) (ap (λ (d : Cursor L). d.next) same)
+
+    not_new : (Heard : Deed → Type 0) (v : Verdict) → verdict h r ≡ v → ((deed : Deed) → v ≢ New deed) → WasAskedIfNew Heard → c_new ≡ c
+    not_new Heard v is other (inl same) = same
+    not_new Heard v is other (inr told) = absurd (other told.0 (sym is ∙ told.1))
+
+    acted_by : (v : Verdict) → verdict h r ≡ v → WasAskedIfNew (λ deed. WasShown l c c_new r (act_text deed.act)) → ((deed : Deed) → verdict h r ≡ New deed → WasShown l c c_new r (act_text deed.act))
+        → Represents new (after_one h r) → Follows l lines new c_new (after_one h r)
+    acted_by (Kept text) is asked shown now =
+        let at : after_one h r ≡ h = ap (after_verdict h) is in
+        subst (Follows l lines new c_new) (sym at) (same_after (not_new _ (Kept text) is (λ deed e. cc) asked) (subst (Represents new) at now))
+    acted_by (Refused refusal) is asked shown now =
+        let at : after_one h r ≡ h = ap (after_verdict h) is in
+        subst (Follows l lines new c_new) (sym at) (same_after (not_new _ (Refused refusal) is (λ deed e. cc) asked) (subst (Represents new) at now))
+    acted_by (New deed) is asked shown now =
+        let at = after_new h r deed is in
+        subst (Follows l lines new c_new) (sym at) (record { represents = subst (Represents new) at now; of_machine = shown_of deed is (shown deed is); next = shown_next deed is (shown deed is) })
+
+    pub acted : WasAskedIfNew (λ deed. WasShown l c c_new r (act_text deed.act)) → ((deed : Deed) → verdict h r ≡ New deed → WasShown l c c_new r (act_text deed.act))
+        → Represents new (after_one h r) → Follows l lines new c_new (after_one h r)
+    acted asked shown now = acted_by (verdict h r) refl asked shown now
+
+    -- the request was not shown to a log that took its line, and all stays
+    pub unacted : (line : List ℕ) (fault : _) → HasNoLine l c c_new line fault → IsUntouched old new → Follows l lines new c_new h
+    unacted line fault it left =
+        still_follows old c new c_new h follows (left.stays h follows.represents) (no_line_grows kept c c_new line fault it) (no_line_next kept c c_new line fault it)
+
+    pub unacted_later : (line : List ℕ) (fault : _) → HasNoLine l c c_new line fault → IsUntouched old new → FollowsLater l lines new c_new h
+    unacted_later line fault it left = (h, leads_nowhere h, unacted line fault it left)
+
+    pub failed_now : (line : List ℕ) (fault : LogFault) → HasNoLine l c c_new line (faults.Log fault) → HasFailed l lines c.log c_new.log fault
+    failed_now line fault it = record { old = c.log; grown = grows_none (lines c.log); failed = inl it.0 }
+
+    -- a fault of the registry: the witness may have seen the request
+    grown_by_fault : WasAskedIfNew (λ deed. (c_new ≡ c) ⊎ WasShown l c c_new r (act_text deed.act)) → Grows (lines c.log) (lines c_new.log)
+    grown_by_fault (inl same) = same_grows kept c c_new same
+    grown_by_fault (inr (deed, is, inl same)) = same_grows kept c c_new same
+    grown_by_fault (inr (deed, is, inr shown)) = line_grows kept c c_new _ shown.line
+
+    stays_of : (x : History) → Grows (lines c.log) (lines c_new.log) → x ≡ h → IsOfMachine (lines c_new.log) x × LeadsTo h x
+    stays_of x grown same = (subst (IsOfMachine (lines c_new.log)) (sym same) (still_of (lines c.log) (lines c_new.log) h follows.of_machine grown), subst (LeadsTo h) (sym same) (leads_nowhere h))
+
+    seen_of : (x : History) (v : Verdict) → verdict h r ≡ v → Grows (lines c.log) (lines c_new.log) → x ≡ after_one h r → (text : List ℕ) → reply_to h r ≡ Done text → WasShown l c c_new r text → IsOfMachine (lines c_new.log) x × LeadsTo h x
+    seen_of x (Kept kept_text) is grown at text replied shown = stays_of x grown (at ∙ ap (after_verdict h) is)
+    seen_of x (Refused refusal) is grown at text replied shown = stays_of x grown (at ∙ ap (after_verdict h) is)
+    seen_of x (New deed) is grown at text replied shown =
+        let both : Done (act_text deed.act) ≡ Done text = sym (ap reply_of is) ∙ replied in
+        let same : act_text deed.act ≡ text = cc in
+        let mine = subst (WasShown l c c_new r) (sym same) shown in
+        let x_is = at ∙ after_new h r deed is in
+        (subst (IsOfMachine (lines c_new.log)) (sym x_is) (shown_of deed is mine), subst (LeadsTo h) (sym x_is) (over_shown deed is mine).leads)
+
+    left_either : (x : History) → Grows (lines c.log) (lines c_new.log) → (x ≡ h) ⊎ ((x ≡ after_one h r) × WasSeen (WasShown l) c c_new r (reply_to h r)) → IsOfMachine (lines c_new.log) x × LeadsTo h x
+    left_either x grown (inl same) = stays_of x grown same
+    left_either x grown (inr it) = seen_of x (verdict h r) refl grown it.0 it.1.0 it.1.1 it.1.2
+
+    pub left_acted : (s : State) → WasAskedIfNew (λ deed. (c_new ≡ c) ⊎ WasShown l c c_new r (act_text deed.act))
+        → Leaves newest s (λ x. (x ≡ h) ⊎ ((x ≡ after_one h r) × WasSeen (WasShown l) c c_new r (reply_to h r))) → Leaves newest s (λ x. IsOfMachine (lines c_new.log) x × LeadsTo h x)
+    left_acted s asked leaves db may = let it = leaves db may in (it.0, left_either it.0 (grown_by_fault asked) it.1, it.2)

@@ -1,0 +1,242 @@
+-- A record compared with a log, or put into it.
+use Rattle.std.proofs.Common.{◌≡◌, ◌≢◌, ◌≤◌, ◌<◌, ◌⊎◌, ◌∙◌, ◌+◌, ◌-◌, ℕ, zero, suc, List, [], ◌∷◌, ◌++◌, length, map, take, drop, slice_get, Option, Some, None, Bool, true, false, inl, inr, Result, Ok, Err, refl, sym, ap, subst, arith}
+use Rattle.std.specs.Prelude.{All}
+use Rattle.std.proofs.lemmas.List.{append-nil, length-append, length-drop, take-append-drop, take-append-le}
+use Rattle.std.proofs.lemmas.List.Elements.{All-cons, All-head, All-nil, All-tail}
+use Rattle.std.proofs.Math.Seq.{take-add}
+use Rattle.sqlite.specs.Store.{Ghosts}
+use Rattle.sqlite.specs.State.{HasCleanDisk}
+use Rattle.registry_rules.specs.Accepted.{AreValid, IsValid, accepted_by, accepted_of}
+use Rattle.registry_rules.specs.History.{History}
+use Rattle.registry_rules.specs.declared.accepted.Accepted.{Accepted}
+use Rattle.registry_rules.specs.declared.deed.Deed.{Deed}
+use Rattle.registry_wire.specs.Record.{accepted_line, founding_line}
+use Rattle.registry_laws.specs.Machines.{HasValidFields}
+use Rattle.registry_laws.specs.Records.{IsAccepted, record_of}
+use Rattle.registry_laws.proofs.MachineLemmas.{appended_twice, in_beginning}
+use Rattle.registry_store.specs.Promise.{Represents, state_of}
+use Rattle.registry_store.specs.Queries.{IsUntouched}
+use Rattle.registry_store.specs.declared.registry.Registry.{Registry}
+use Rattle.registry_store.proofs.TransactionLemmas.{quiet_then}
+use Rattle.shared_log.specs.Calls.{LogLines, AtSomeInstant, Grows, IsKept, IsPage}
+use Rattle.shared_log.specs.declared.answers.AppendAnswer.TheVariants as answers
+use Rattle.shared_log.specs.declared.answers.PageAnswer.{PageAnswer}
+use Rattle.shared_log.specs.declared.log.Log.{Ghosts as LogGhosts}
+use Rattle.shared_registry.specs.declared.cursor.AppendFault.TheVariants as faults
+use Rattle.shared_registry.specs.declared.cursor.Cursor.{Cursor}
+use Rattle.shared_registry.specs.declared.stop.ShareStop.{ShareStop}
+use Rattle.shared_registry.specs.declared.stop.ShareStop.TheVariants as stops
+use Rattle.shared_registry.specs.Cursors.{HasLine, HasNoLine}
+use Rattle.shared_registry.specs.Follows.{HasFailed}
+use Rattle.shared_registry.specs.Records.{HasPassed, IsApart, IsNextPart, IsOtherPage, IsUnshared, Matches}
+use Rattle.shared_registry.proofs.FollowLemmas.{earlier_start, failed_since, grows_none, grows_on, line_taken, no_line_grows}
+
+-- ---- the fields of a history are valid
+
+valid_deed : (deed : Deed) → IsAccepted (accepted_by deed) → IsValid deed
+valid_deed deed is = record { caller = is.caller; key = is.key; order = is.order; time = is.time }
+
+all_front : {X : Type 0} (P : X → Type 0) (xs ys : List X) → All P (xs ++ ys) → All P xs
+all_front P [] ys all = All-nil P
+all_front P (x ∷ xs) ys all = All-cons P x xs (All-head P x (xs ++ ys) all) (all_front P xs ys (All-tail P x (xs ++ ys) all))
+
+all_last : {X : Type 0} (P : X → Type 0) (xs : List X) (y : X) → All P (xs ++ y ∷ []) → P y
+all_last P [] y all = All-head P y [] all
+all_last P (x ∷ xs) y all = all_last P xs y (All-tail P x (xs ++ y ∷ []) all)
+
+pub valid_deeds : (deeds : List Deed) → All IsAccepted (accepted_of deeds) → AreValid deeds
+valid_deeds [] all = All-nil IsValid
+valid_deeds (deed ∷ earlier) all =
+    All-cons IsValid deed earlier (valid_deed deed (all_last IsAccepted (accepted_of earlier) (accepted_by deed) all)) (valid_deeds earlier (all_front IsAccepted (accepted_of earlier) (accepted_by deed ∷ []) all))
+
+-- ---- parts of a record
+
+mapped_drop : {A B : Type 0} (f : A → B) (n : ℕ) (xs : List A) → drop n (map f xs) ≡ map f (drop n xs)
+mapped_drop f zero xs = refl
+mapped_drop f (suc n) [] = refl
+mapped_drop f (suc n) (x ∷ xs) = mapped_drop f n xs
+
+mapped_both : {A B : Type 0} (f : A → B) (xs ys : List A) → map f (xs ++ ys) ≡ map f xs ++ map f ys
+mapped_both f [] ys = refl
+mapped_both f (x ∷ xs) ys = ap (λ l. f x ∷ l) (mapped_both f xs ys)
+
+none_mapped : {A B : Type 0} (f : A → B) (k : ℕ) (xs : List A) → map f (take (suc k) xs) ≡ [] → map f (drop (suc k) xs) ≡ []
+none_mapped f k [] is = refl
+none_mapped f k (x ∷ xs) is = absurd cc
+
+pub next_requests : (h : History) (before k : ℕ) (list : List Accepted) → list ≡ take (suc k) (drop before (accepted_of h.deeds)) → IsNextPart (record_of h) (suc before) (map accepted_line list)
+next_requests h before k list is =
+    let all = drop before (accepted_of h.deeds) in
+    record {
+      rest = map accepted_line (drop (suc k) all);
+      next = mapped_drop accepted_line before (accepted_of h.deeds) ∙ ap (map accepted_line) (sym (take-append-drop (suc k) all)) ∙ mapped_both accepted_line (take (suc k) all) (drop (suc k) all)
+          ∙ ap (λ (l : List Accepted). map accepted_line l ++ map accepted_line (drop (suc k) all)) (sym is);
+      none = λ none. none_mapped accepted_line k all (sym (ap (map accepted_line) is) ∙ none);
+    }
+
+pub next_founding : (h : History) (part : LogLines) → part ≡ founding_line h.founding ∷ [] → IsNextPart (record_of h) 0 part
+next_founding h part is = record {
+  rest = map accepted_line (accepted_of h.deeds);
+  next = ap (λ (l : LogLines). l ++ map accepted_line (accepted_of h.deeds)) (sym is);
+  none = λ none. absurd (let some : founding_line h.founding ∷ [] ≡ [] = sym is ∙ none in cc);
+}
+
+-- ---- places in lists
+
+at_sum : (xs ys : LogLines) (k : ℕ) → slice_get (xs ++ ys) (length xs + k) ≡ slice_get ys k
+at_sum [] ys k = refl
+at_sum (x ∷ xs) ys k = at_sum xs ys k
+
+at_dropped : (n : ℕ) (xs : LogLines) (k : ℕ) → slice_get xs (n + k) ≡ slice_get (drop n xs) k
+at_dropped zero xs k = refl
+at_dropped (suc n) [] k = refl
+at_dropped (suc n) (x ∷ xs) k = at_dropped n xs k
+
+some_at : (xs : LogLines) (k : ℕ) → k < length xs → (line : List ℕ) × (slice_get xs k ≡ Some line)
+some_at [] k lt = absurd (omega (arith, lt))
+some_at (x ∷ xs) zero lt = (x, refl)
+some_at (x ∷ xs) (suc k) lt = some_at xs k (omega (arith, lt))
+
+long_front : (n : ℕ) (xs : LogLines) → n ≤ length xs → length (take n xs) ≡ n
+long_front zero xs le = refl
+long_front (suc n) [] le = absurd (omega (arith, le))
+long_front (suc n) (x ∷ xs) le = ap suc (long_front n xs (omega (arith, le)))
+
+all_of : (n : ℕ) (xs : LogLines) → length xs ≤ n → take n xs ≡ xs
+all_of zero [] le = refl
+all_of zero (x ∷ xs) le = absurd (omega (arith, le))
+all_of (suc n) [] le = refl
+all_of (suc n) (x ∷ xs) le = ap (λ l. x ∷ l) (all_of n xs (omega (arith, le)))
+
+none_left : (n : ℕ) (xs : LogLines) → drop n xs ≡ [] → n ≤ length xs → n ≡ length xs
+none_left n xs none le = let long : 0 ≡ length xs - n = ap length (sym none) ∙ length-drop n xs in omega (arith, long, le)
+
+dropped_front : (xs ys : LogLines) (n : ℕ) → length xs ≡ n → drop n (xs ++ ys) ≡ ys
+dropped_front [] ys zero is = refl
+dropped_front [] ys (suc n) is = absurd (omega (arith, is))
+dropped_front (x ∷ xs) ys zero is = absurd (omega (arith, is))
+dropped_front (x ∷ xs) ys (suc n) is = dropped_front xs ys n (omega (arith, is))
+
+-- ---- a cursor before the rest of a record
+
+module _ {L : Type 0} (l : LogGhosts L) (lines : L → LogLines) (h : History) where
+  -- nothing is passed yet
+  pub none_passed : (c : Cursor L) → c.next ≡ 0 → HasPassed lines c h
+  none_passed c is = record { within = omega (arith, is); begins = subst (λ (n : ℕ). Grows (take n (record_of h)) (lines c.log)) (sym is) (lines c.log, refl) }
+
+  -- all is passed
+  pub all_passed : (c : Cursor L) → HasPassed lines c h → c.next ≡ length (record_of h) → Grows (record_of h) (lines c.log)
+  all_passed c passed is = subst (λ (front : LogLines). Grows front (lines c.log)) (all_of c.next (record_of h) (omega (arith, is))) passed.begins
+
+  pub no_part : (c : Cursor L) (part : LogLines) → HasPassed lines c h → IsNextPart (record_of h) c.next part → part ≡ [] → c.next ≡ length (record_of h)
+  no_part c part passed is none = none_left c.next (record_of h) (is.next ∙ ap (λ (p : LogLines). p ++ is.rest) none ∙ is.none none) passed.within
+
+  -- the record is as long as the lines that are passed, the next part and the rest
+  long_record : (c : Cursor L) (part rest : LogLines) → HasPassed lines c h → drop c.next (record_of h) ≡ part ++ rest → length (record_of h) ≡ c.next + (length part + length rest)
+  long_record c part rest passed is =
+      let long : length part + length rest ≡ length (record_of h) - c.next = sym (length-append part rest) ∙ ap length (sym is) ∙ length-drop c.next (record_of h) in
+      let within = passed.within in
+      omega (arith, long, within)
+
+  -- The log at the instant of a read: the lines that are passed, the page and the rest.
+  record WasRead (c : Cursor L) (now : L) (page : PageAnswer) : Type 0 where
+    there : AtSomeInstant (lines c.log) (lines now) (λ _. ⊤)
+    rest : LogLines
+    is : there.instant ≡ take c.next (record_of h) ++ (page.lines ++ rest)
+    last : page.more ≡ false → rest ≡ []
+
+  was_read : (c : Cursor L) (now : L) (page : PageAnswer) → HasPassed lines c h → AtSomeInstant (lines c.log) (lines now) (IsPage c.next page) → WasRead c now page
+  was_read c now page passed at =
+      let front = take c.next (record_of h) in
+      let more = grows_on front (lines c.log) at.instant passed.begins at.before in
+      let same : more.0 ≡ page.lines ++ at.held.0 = sym (dropped_front front more.0 c.next (long_front c.next (record_of h) passed.within)) ∙ ap (drop c.next) (sym more.1) ∙ at.held.1 in
+      record {
+        there = record { instant = at.instant; before = at.before; after = at.after; held = tt };
+        rest = at.held.0;
+        is = more.1 ∙ ap (λ (m : LogLines). front ++ m) same;
+        last = at.held.2;
+      }
+
+  -- the first lines of the part are those of the page
+  pub page_passed : (c c_new : Cursor L) (part : LogLines) (page : PageAnswer) (count : ℕ) → HasPassed lines c h → IsNextPart (record_of h) c.next part → AtSomeInstant (lines c.log) (lines c_new.log) (IsPage c.next page)
+      → Matches part page.lines count → c_new.next ≡ c.next + count → HasPassed lines c_new h
+  page_passed c c_new part page count passed is at same next =
+      let read = was_read c c_new.log page passed at in
+      let front = take c.next (record_of h) in
+      let cut : page.lines ≡ take count part ++ drop count page.lines = sym (take-append-drop count page.lines) ∙ ap (λ (t : LogLines). t ++ drop count page.lines) (sym same.same) in
+      let ours : take (c.next + count) (record_of h) ≡ front ++ take count part =
+      take-add c.next count (record_of h) ∙ ap (λ (d : LogLines). front ++ take count d) is.next ∙ ap (λ (t : LogLines). front ++ t) (take-append-le count part is.rest same.within) in
+      let there : read.there.instant ≡ (front ++ take count part) ++ (drop count page.lines ++ read.rest) =
+      read.is ∙ ap (λ (p : LogLines). front ++ (p ++ read.rest)) cut ∙ ap (λ (p : LogLines). front ++ p) (appended_twice (take count part) (drop count page.lines) read.rest)
+      ∙ sym (appended_twice front (take count part) (drop count page.lines ++ read.rest)) in
+      let long = long_record c part is.rest passed is.next in
+      let few = same.within in
+      record {
+        within = omega (arith, long, few, next);
+        begins = subst (λ (n : ℕ). Grows (take n (record_of h)) (lines c_new.log)) (sym next)
+            (grows_on (take (c.next + count) (record_of h)) read.there.instant (lines c_new.log) (drop count page.lines ++ read.rest, there ∙ ap (λ (f : LogLines). f ++ (drop count page.lines ++ read.rest)) (sym ours)) read.there.after);
+      }
+
+  -- ---- why a page is another
+
+  page_apart : (c : Cursor L) (now : L) (part : LogLines) (page : PageAnswer) (count : ℕ) → HasPassed lines c h → IsNextPart (record_of h) c.next part → AtSomeInstant (lines c.log) (lines now) (IsPage c.next page)
+      → count < length part → count < length page.lines → slice_get part count ≢ slice_get page.lines count → IsApart (lines c.log) (lines now) h (c.next + count)
+  page_apart c now part page count passed is at ours theirs other =
+      let read = was_read c now page passed at in
+      let front = take c.next (record_of h) in
+      let line = some_at page.lines count theirs in
+      let place : c.next + count ≡ length front + count = ap (λ (n : ℕ). n + count) (sym (long_front c.next (record_of h) passed.within)) in
+      record {
+        line = line.0;
+        there = record {
+          instant = read.there.instant;
+          before = read.there.before;
+          after = read.there.after;
+          held = ap (λ (log : LogLines). slice_get log (c.next + count)) read.is ∙ ap (slice_get (front ++ (page.lines ++ read.rest))) place ∙ at_sum front (page.lines ++ read.rest) count
+              ∙ in_beginning page.lines read.rest count theirs ∙ line.1;
+        };
+        other = λ same.
+            other (sym (in_beginning part is.rest count ours) ∙ ap (λ (d : LogLines). slice_get d count) (sym is.next) ∙ sym (at_dropped c.next (record_of h) count) ∙ same ∙ sym line.1);
+      }
+
+  -- the log ends before the record does
+  page_short : (c : Cursor L) (now : L) (part : LogLines) (page : PageAnswer) → HasPassed lines c h → IsNextPart (record_of h) c.next part → part ≢ [] → AtSomeInstant (lines c.log) (lines now) (IsPage c.next page)
+      → page.lines ≡ [] → page.more ≡ false → AtSomeInstant (lines c.log) (lines now) (λ log. length log < length (record_of h))
+  page_short c now [] page passed is some at none last = absurd (some refl)
+  page_short c now (line ∷ part) page passed is some at none last =
+      let read = was_read c now page passed at in
+      let front = take c.next (record_of h) in
+      let all : read.there.instant ≡ front = read.is ∙ ap (λ (p : LogLines). front ++ (p ++ read.rest)) none ∙ ap (λ (r : LogLines). front ++ r) (read.last last) ∙ append-nil front in
+      let count : length read.there.instant ≡ c.next = ap length all ∙ long_front c.next (record_of h) passed.within in
+      let long = long_record c (line ∷ part) is.rest passed is.next in
+      record { instant = read.there.instant; before = read.there.before; after = read.there.after; held = omega (arith, count, long) }
+
+  pub page_other : (c : Cursor L) (now : L) (part : LogLines) (page : PageAnswer) → HasPassed lines c h → IsNextPart (record_of h) c.next part → part ≢ [] → AtSomeInstant (lines c.log) (lines now) (IsPage c.next page)
+      → l.reads c.log now c.next page → (stop : ShareStop) → IsOtherPage part page.lines page.more c.next stop → IsUnshared l lines h c.log now stop
+  page_other c now part page passed is some at reads (stops.Registry fault) it = absurd it
+  page_other c now part page passed is some at reads (stops.Log fault) it = record { old = c.log; grown = grows_none (lines c.log); failed = inr (c.next, page, reads, it.0, it.1, it.2) }
+  page_other c now part page passed is some at reads (stops.OtherRecord n) it = subst (IsApart (lines c.log) (lines now) h) (sym it.1) (page_apart c now part page it.0 passed is at it.2 it.3 it.4)
+  page_other c now part page passed is some at reads stops.Ahead it = page_short c now part page passed is some at it.0 it.1
+  page_other c now part page passed is some at reads stops.Full it = let long = long_record c part is.rest passed is.next in omega (arith, it, long)
+  page_other c now part page passed is some at reads stops.NoMemory it = absurd it
+
+  -- ---- calls one after another
+
+  pub unshared_since : (start c now : L) → Grows (lines start) (lines c) → (stop : ShareStop) → IsUnshared l lines h c now stop → IsUnshared l lines h start now stop
+  unshared_since start c now grown (stops.Registry fault) it = it
+  unshared_since start c now grown (stops.Log fault) it = record { old = it.old; grown = grows_on (lines start) (lines c) (lines it.old) grown it.grown; failed = it.failed }
+  unshared_since start c now grown (stops.OtherRecord n) it = record { line = it.line; there = earlier_start (lines start) (lines c) (lines now) _ grown it.there; other = it.other }
+  unshared_since start c now grown stops.Ahead it = earlier_start (lines start) (lines c) (lines now) _ grown it
+  unshared_since start c now grown stops.Full it = it
+  unshared_since start c now grown stops.NoMemory it = grows_on (lines start) (lines c) (lines now) grown it
+
+module _ {S : Type 0} {g : Ghosts S} where
+  pub untouched_then : (it mid new : Registry S g) → IsUntouched it mid → IsUntouched mid new → IsUntouched it new
+  untouched_then it mid new a b = record {
+    stays = λ h stands. b.stays h (a.stays h stands);
+    poisons_nothing = b.poisons_nothing ∙ a.poisons_nothing;
+    survives = quiet_then (state_of it) (state_of mid) (state_of new) a.survives b.survives;
+  }
+
+  pub clean_before : (mid new : Registry S g) → IsUntouched mid new → HasCleanDisk (state_of new) → HasCleanDisk (state_of mid)
+  clean_before mid new b clean = let more = b.survives.clean in omega (arith, more, clean)

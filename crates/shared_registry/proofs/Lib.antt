@@ -1,0 +1,3 @@
+pub mod FollowLemmas
+pub mod JoinLemmas
+pub mod LineLemmas

@@ -1,0 +1,158 @@
+-- The lines with which the record of a history goes on.
+use Rattle.std.proofs.Common.{◌≡◌, ◌≢◌, ◌⊎◌, ◌∙◌, ◌+◌, ℕ, List, [], ◌∷◌, ◌++◌, length, Option, Some, None, Bool, true, false, inl, inr, Result, Ok, Err, refl, sym, ap, subst}
+use Rattle.std.specs.Prelude.{All, OnOk, is_some}
+use Rattle.std.proofs.lemmas.List.{append-nil}
+use Rattle.std.proofs.lemmas.List.Elements.{All-append, All-cons, All-nil}
+use Rattle.sqlite.specs.Store.{Ghosts}
+use Rattle.sqlite.specs.State.{State}
+use Rattle.registry_rules.specs.Accepted.{accepted_by, accepted_of}
+use Rattle.registry_rules.specs.History.{History, with_deed}
+use Rattle.registry_rules.specs.Reply.{act_text}
+use Rattle.registry_rules.specs.Run.{after, after_one, after_verdict, reply_of, reply_to, request_of}
+use Rattle.registry_rules.specs.Verdict.{verdict}
+use Rattle.registry_rules.specs.declared.accepted.Accepted.{Accepted}
+use Rattle.registry_rules.specs.declared.deed.Deed.{Deed}
+use Rattle.registry_rules.specs.declared.order.Request.{Request}
+use Rattle.registry_rules.specs.declared.verdict.Reply.{Reply}
+use Rattle.registry_rules.specs.declared.verdict.Reply.TheVariants.{Done}
+use Rattle.registry_rules.specs.declared.verdict.Verdict.{Verdict}
+use Rattle.registry_rules.specs.declared.verdict.Verdict.TheVariants.{Kept, Refused, New}
+use Rattle.registry_rules.proofs.RunLemmas.{new_is_of}
+use Rattle.registry_wire.specs.Record.{accepted_line, record_reading}
+use Rattle.registry_wire.specs.declared.record.RecordLine.{RecordLine}
+use Rattle.registry_wire.specs.declared.record.RecordLine.TheVariants as lines
+use Rattle.registry_wire.specs.declared.refusal.WireRefusal.{WireRefusal}
+use Rattle.registry_laws.specs.Machines.{HasValidFields, LeadsTo}
+use Rattle.registry_laws.specs.Records.{IsAccepted, record_of}
+use Rattle.registry_laws.proofs.LineLemmas.{accepted_read}
+use Rattle.registry_laws.proofs.MachineLemmas.{after_both, appended_twice, record_with}
+use Rattle.registry_tables.specs.Rows.{newest}
+use Rattle.registry_store.specs.Promise.{Leaves, Represents}
+use Rattle.registry_store.specs.Witness.{WasSeen}
+use Rattle.registry_store.specs.declared.registry.Registry.{Registry}
+use Rattle.shared_log.specs.Calls.{LogLines}
+use Rattle.shared_registry.specs.declared.expecting.Expected.{Expected}
+use Rattle.shared_registry.specs.declared.expecting.Unexpected.{Unexpected}
+use Rattle.shared_registry.specs.declared.expecting.Unexpected.TheVariants.{Other}
+use Rattle.shared_registry.specs.Cursors.{accepted_as}
+use Rattle.shared_registry.specs.Lines.{Continues, ContinuesBy, GoesOver, IsExpected, IsUnexpected, LeadsToLine}
+
+-- ---- one line
+
+-- the accepted request of a new deed is the request with the reply
+pub by_new : (h : History) (r : Request) (deed : Deed) → verdict h r ≡ New deed → accepted_by deed ≡ accepted_as r (act_text deed.act)
+by_new h r deed is = ap (λ (q : Request). accepted_as q (act_text deed.act)) (new_is_of h r deed is)
+
+pub after_new : (h : History) (r : Request) (deed : Deed) → verdict h r ≡ New deed → after_one h r ≡ with_deed h deed
+after_new h r deed is = ap (after_verdict h) is
+
+-- the line of a new request with its reply
+pub continued : (h : History) (r : Request) (deed : Deed) (line : List ℕ) → verdict h r ≡ New deed → IsAccepted (accepted_as r (act_text deed.act)) → accepted_line (accepted_as r (act_text deed.act)) ≡ line
+    → ContinuesBy h r line (with_deed h deed)
+continued h r deed line is valid same = record {
+  deed = deed;
+  new = is;
+  valid = subst IsAccepted (sym (by_new h r deed is)) valid;
+  written = sym same ∙ ap accepted_line (sym (by_new h r deed is));
+  is = refl;
+}
+
+pub over_one : (h : History) (r : Request) (line : List ℕ) (x : History) → ContinuesBy h r line x → GoesOver h (line ∷ []) x
+over_one h r line x it = record {
+  written = ap record_of it.is ∙ (record_with h it.deed ∙ ap (λ (l : List ℕ). record_of h ++ l ∷ []) (sym it.written));
+  leads = (r ∷ [], it.is ∙ sym (after_new h r it.deed it.new));
+  valid = λ valid. subst HasValidFields (sym it.is) (record {
+    founding = valid.founding;
+    accepted = All-append IsAccepted (accepted_of h.deeds) (accepted_by it.deed ∷ []) valid.accepted (All-cons IsAccepted (accepted_by it.deed) [] it.valid (All-nil IsAccepted));
+  });
+}
+
+-- ---- lines one after another
+
+pub leads_nowhere : (h : History) → LeadsTo h h
+leads_nowhere h = ([], refl)
+
+pub leads_on : (h x y : History) → LeadsTo h x → LeadsTo x y → LeadsTo h y
+leads_on h x y one two = (one.0 ++ two.0, two.1 ∙ ap (λ (z : History). after z two.0) one.1 ∙ sym (after_both h one.0 two.0))
+
+pub over_none : (h : History) → GoesOver h [] h
+over_none h = record { written = sym (append-nil (record_of h)); leads = leads_nowhere h; valid = λ valid. valid }
+
+pub over_both : (h x y : History) (front rest : LogLines) → GoesOver h front x → GoesOver x rest y → GoesOver h (front ++ rest) y
+over_both h x y front rest over it = record {
+  written = it.written ∙ ap (λ (l : LogLines). l ++ rest) over.written ∙ appended_twice (record_of h) front rest;
+  leads = leads_on h x y over.leads it.leads;
+  valid = λ valid. it.valid (over.valid valid);
+}
+
+-- ---- what a line says
+
+-- a line that leads on is read as its request
+pub read_of : (h : History) (line : List ℕ) (x : History) → (it : Continues h line x) → record_reading line ≡ Ok (lines.Accepted (accepted_by it.1.deed) None)
+read_of h line x it = ap record_reading it.1.written ∙ accepted_read (accepted_by it.1.deed) it.1.valid
+
+-- so a line that is read as something else leads to nothing
+pub unread : (h : History) (line : List ℕ) (found : Result RecordLine WireRefusal) → record_reading line ≡ found → ((accepted : Accepted) → found ≢ Ok (lines.Accepted accepted None))
+    → (x : History) → ¬ Continues h line x
+unread h line found is other x it = other (accepted_by it.1.deed) (sym is ∙ read_of h line x it)
+
+-- a line that is read as a request leads on by this request alone
+pub by_request : (h : History) (line : List ℕ) (accepted : Accepted) (digest : Option (List ℕ)) → record_reading line ≡ Ok (lines.Accepted accepted digest)
+    → ((x : History) → ¬ ContinuesBy h accepted.request line x) → (x : History) → ¬ Continues h line x
+by_request h line accepted digest is none x it =
+    let both : Ok (lines.Accepted accepted digest) ≡ Ok (lines.Accepted (accepted_by it.1.deed) None) = sym is ∙ read_of h line x it in
+    let same : accepted ≡ accepted_by it.1.deed = cc in
+    let mine : it.0 ≡ accepted.request = sym (new_is_of h it.0 it.1.deed it.1.new) ∙ sym (ap (λ (a : Accepted). a.request) same) in
+    none x (subst (λ (r : Request). ContinuesBy h r line x) mine it.1)
+
+-- ---- a request that is acted on if it has the expected line
+
+module _ (h : History) (r : Request) (old new : Expected) (fresh : old.is_it ≡ None) where
+  -- the request was asked about, once, and this holds of its deed
+  abbrev pub WasAsked : (Deed → Type 0) → Type 0
+  WasAsked Heard = (new ≡ old) ⊎ ((deed : Deed) × (verdict h r ≡ New deed) × Heard deed)
+
+  untold : (is : Bool) → new ≡ old → new ≡ record old { is_it = Some is } → ⊥
+  untold is same told = let none : None ≡ Some is = sym fresh ∙ ap (λ (e : Expected). e.is_it) (sym same ∙ told) in cc
+
+  module _ {S : Type 0} {g : Ghosts S} (it : Registry S g) where
+    -- the registry goes on with the line, if a fit was noted
+    pub goes_on : WasAsked (λ deed. IsExpected old new r (act_text deed.act)) → is_some new.is_it ≡ true → Represents it (after_one h r) → LeadsToLine it h old.line
+    goes_on (inl same) noted now = absurd (let none : is_some new.is_it ≡ false = ap (λ (e : Expected). is_some e.is_it) same ∙ ap is_some fresh in cc)
+    goes_on (inr told) noted now =
+        (with_deed h told.0, (r, continued h r told.0 old.line told.1 told.2.valid told.2.same), subst (Represents it) (after_new h r told.0 told.1) now)
+
+    -- without a note the request added no deed
+    pub stays : (v : Verdict) → verdict h r ≡ v → ((deed : Deed) → verdict h r ≡ New deed → IsExpected old new r (act_text deed.act)) → is_some new.is_it ≡ false → Represents it (after_one h r) → Represents it h
+    stays (Kept text) is seen noted now = subst (Represents it) (ap (after_verdict h) is) now
+    stays (Refused refusal) is seen noted now = subst (Represents it) (ap (after_verdict h) is) now
+    stays (New deed) is seen noted now = absurd (let some : is_some new.is_it ≡ true = ap (λ (e : Expected). is_some e.is_it) (seen deed is).told in cc)
+
+  -- and the line does not lead on by it
+  pub leads_nowhere_else : ((deed : Deed) → verdict h r ≡ New deed → IsExpected old new r (act_text deed.act)) → is_some new.is_it ≡ false → (x : History) → ¬ ContinuesBy h r old.line x
+  leads_nowhere_else seen noted x by = let some : is_some new.is_it ≡ true = ap (λ (e : Expected). is_some e.is_it) (seen by.deed by.new).told in cc
+
+  -- a request that was shown and has another line does not lead on
+  pub has_other : WasAsked (λ deed. IsUnexpected old new r (act_text deed.act) Other) → (text : List ℕ) → IsUnexpected old new r text Other → (x : History) → ¬ ContinuesBy h r old.line x
+  has_other (inl same) text missed x by = untold false same missed.1
+  has_other (inr told) text missed x by =
+      let both : New told.0 ≡ New by.deed = sym told.1 ∙ by.new in
+      let same : told.0 ≡ by.deed = cc in
+      told.2.0 (ap (λ (d : Deed). accepted_line (accepted_as r (act_text d.act))) same ∙ (ap accepted_line (sym (by_new h r by.deed by.new)) ∙ sym by.written))
+
+  -- what a crash leaves is the history, or that to which the line leads
+  left_by : (x : History) (v : Verdict) → verdict h r ≡ v → x ≡ after_one h r → (text : List ℕ) → reply_to h r ≡ Done text → IsExpected old new r text → (x ≡ h) ⊎ Continues h old.line x
+  left_by x (Kept kept) is at text replied seen = inl (at ∙ ap (after_verdict h) is)
+  left_by x (Refused refusal) is at text replied seen = inl (at ∙ ap (after_verdict h) is)
+  left_by x (New deed) is at text replied seen =
+      let both : Done (act_text deed.act) ≡ Done text = sym (ap reply_of is) ∙ replied in
+      let same : act_text deed.act ≡ text = cc in
+      let by = continued h r deed old.line is (subst (λ (t : List ℕ). IsAccepted (accepted_as r t)) (sym same) seen.valid) (ap (λ (t : List ℕ). accepted_line (accepted_as r t)) same ∙ seen.same) in
+      inr (r, subst (ContinuesBy h r old.line) (sym (at ∙ after_new h r deed is)) by)
+
+  left_either : (x : History) → (x ≡ h) ⊎ ((x ≡ after_one h r) × WasSeen IsExpected old new r (reply_to h r)) → (x ≡ h) ⊎ Continues h old.line x
+  left_either x (inl same) = inl same
+  left_either x (inr it) = left_by x (verdict h r) refl it.0 it.1.0 it.1.1 it.1.2
+
+  pub left : (s : State) → Leaves newest s (λ x. (x ≡ h) ⊎ ((x ≡ after_one h r) × WasSeen IsExpected old new r (reply_to h r))) → Leaves newest s (λ x. (x ≡ h) ⊎ Continues h old.line x)
+  left s leaves db may = let it = leaves db may in (it.0, left_either it.0 it.1, it.2)

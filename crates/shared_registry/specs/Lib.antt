@@ -1,0 +1,4 @@
+pub mod Cursors
+pub mod Follows
+pub mod Lines
+pub mod Records

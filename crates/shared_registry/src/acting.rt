@@ -1,0 +1,84 @@
+//! Acts on a request over the log that the registry follows.
+
+ghost use Rattle.std.specs.Prelude.{◌≡◌, true, None, Err, IfErr, IfOk};
+ghost use Rattle.sqlite.specs.State.{HasCleanDisk};
+ghost use Rattle.registry_rules.specs.History.{History};
+ghost use Rattle.registry_store.specs.Promise.{Endures, NotesForeign, is_poisoned, state_of};
+ghost use Rattle.shared_log.specs.Calls.{IsKept, LogLines};
+ghost use Rattle.shared_registry.specs.Lines.{fault_in};
+ghost use Rattle.shared_registry.specs.Follows.{Follows, HasActed, IsAnswered, IsLeft};
+
+use crate::cursor::{AppendFault, Cursor};
+use crate::following::follow;
+use crate::stop::ShareStop;
+use registry_rules::{Reply, Request};
+use registry_store::{ActStop, Fault, Registry};
+use shared_log::{Log, LogFault};
+use sqlite::Alter;
+
+/// Acts on a request, whose line is appended before it is committed. Returns no reply if another line
+/// has that number: the log has grown since it was followed.
+fn try_to_act<S: Alter, L: Log>(
+    registry: &mut Registry<S>,
+    cursor: &mut Cursor<L>,
+    request: &Request,
+) -> Result<Option<Reply>, ShareStop>
+    ensures ok { (lines : L → LogLines) → IsKept L.Log lines → (h : History) → Follows L.Log lines registry.old cursor.old h → HasCleanDisk (state_of registry.new)
+        → IfOk result (HasActed L.Log lines cursor.old registry.new cursor.new h request.now) }
+    ensures err { (lines : L → LogLines) → IsKept L.Log lines → (h : History) → Follows L.Log lines registry.old cursor.old h → HasCleanDisk (state_of registry.new)
+        → IfErr result (IsLeft L.Log lines cursor.old registry.new cursor.new h) }
+    ensures notes { NotesForeign registry.old registry.new (fault_in result) }
+    ensures endures { Endures (state_of registry.old) (state_of registry.new) }
+    ensures same_place { IfOk result (λ reply. reply ≡ None → cursor.new.next ≡ cursor.old.next) }
+{
+    match registry.act_before(request, cursor) {
+        Ok(reply) => Ok(Some(reply)),
+        Err(ActStop::Fault(fault)) => Err(ShareStop::Registry(fault)),
+        Err(ActStop::Unwitnessed(AppendFault::Taken)) => Ok(None),
+        Err(ActStop::Unwitnessed(AppendFault::Behind)) => Err(ShareStop::Ahead),
+        Err(ActStop::Unwitnessed(AppendFault::Full)) => Err(ShareStop::Full),
+        Err(ActStop::Unwitnessed(AppendFault::NoMemory)) => Err(ShareStop::NoMemory),
+        Err(ActStop::Unwitnessed(AppendFault::Log(fault))) => Err(ShareStop::Log(fault)),
+    }
+}
+
+/// Acts on one request over the log that the registry follows: acts on the lines that it has not
+/// acted on, and then on the request, whose line is appended before it is committed, if it is new.
+/// Begins again if another machine has appended a line meanwhile.
+///
+/// # Errors
+///
+/// As [`follow`](crate::follow). After `Log` the log may have the line, or take it at any later time,
+/// and a later call acts on it then. `Ahead` never comes over a log that keeps its lines.
+pub fn act<S: Alter, L: Log>(
+    registry: &mut Registry<S>,
+    cursor: &mut Cursor<L>,
+    request: &Request,
+) -> Result<Reply, ShareStop>
+    ensures when_poisoned { is_poisoned registry.old ≡ true → (result ≡ Err (ShareStop.Registry Fault.Poisoned)) × (registry.new ≡ registry.old) × (cursor.new ≡ cursor.old) }
+    ensures ok { (lines : L → LogLines) → IsKept L.Log lines → (h : History) → Follows L.Log lines registry.old cursor.old h → HasCleanDisk (state_of registry.new)
+        → IfOk result (IsAnswered L.Log lines cursor.old registry.new cursor.new h request.now) }
+    ensures err { (lines : L → LogLines) → IsKept L.Log lines → (h : History) → Follows L.Log lines registry.old cursor.old h → HasCleanDisk (state_of registry.new)
+        → IfErr result (IsLeft L.Log lines cursor.old registry.new cursor.new h) }
+    ensures notes { NotesForeign registry.old registry.new (fault_in result) }
+    ensures endures { Endures (state_of registry.old) (state_of registry.new) }
+{
+    if let Err(stop) = follow(registry, cursor) {
+        return Err(stop);
+    }
+    loop {
+        match try_to_act(registry, cursor, request) {
+            Ok(Some(reply)) => return Ok(reply),
+            Ok(None) => {}
+            Err(stop) => return Err(stop),
+        }
+        let before = cursor.next;
+        if let Err(stop) = follow(registry, cursor) {
+            return Err(stop);
+        }
+        // A log that had a line here shows one.
+        if cursor.next <= before {
+            return Err(ShareStop::Log(LogFault::BadAnswer));
+        }
+    }
+}

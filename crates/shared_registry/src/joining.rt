@@ -1,0 +1,248 @@
+//! Takes up a log: compares the record of a registry with the lines of the log, or appends it.
+
+ghost use Rattle.std.specs.Prelude.{◌≡◌, ◌≢◌, ◌⊎◌, ◌<◌, ◌+◌, ◌++◌, ℕ, [], false, true, Err, IfErr, IfNone, IfOk, IfSome, OnOk, drop, length};
+ghost use Rattle.sqlite.specs.State.{HasCleanDisk};
+ghost use Rattle.registry_rules.specs.History.{History};
+ghost use Rattle.registry_laws.specs.Machines.{HasValidFields};
+ghost use Rattle.registry_laws.specs.Records.{record_of};
+ghost use Rattle.registry_store.specs.Promise.{NotesForeign, Represents, state_of};
+ghost use Rattle.registry_store.specs.Queries.{IsUntouched};
+ghost use Rattle.shared_log.specs.Calls.{Grows, IsKept, LogLines};
+ghost use Rattle.shared_registry.specs.Lines.{fault_in};
+ghost use Rattle.shared_registry.specs.Cursors.{most_lines};
+ghost use Rattle.shared_registry.specs.Follows.{Follows};
+ghost use Rattle.shared_registry.specs.Records.{HasPassed, IsOtherPage, IsUnshared, Matches, stop_in};
+
+use crate::cursor::{AppendFault, Cursor};
+use crate::record::record_part;
+use crate::stop::ShareStop;
+use registry_store::Registry;
+use shared_log::{Line, Lines, Log, LogFault};
+use sqlite::Alter;
+use std::alloc::Global;
+
+/// Returns how many of the first lines are the same.
+fn same_lines(ours: &[Line], theirs: &[Line]) -> usize
+    ensures { Matches ours.now theirs.now result }
+{
+    let mut count = 0;
+    for line in ours {
+        match theirs.get(count) {
+            Some(other) => {
+                if other.as_bytes() != line.as_bytes() {
+                    return count;
+                }
+            }
+            None => return count,
+        }
+        count += 1;
+    }
+    count
+}
+
+/// Returns the sum, if it is less than 2^32.
+fn add(next: u32, count: usize) -> Option<u32>
+    ensures some { IfSome result (λ sum. sum ≡ next + count) }
+    ensures none { IfNone result (most_lines < next + count) }
+{
+    next.checked_add(u32::try_from(count).ok()?)
+}
+
+/// Compares a page of the log with the lines of the record that are to be there. Returns how many
+/// are.
+fn compare_page(ours: &Lines, theirs: &Lines, more: bool, next: u32) -> Result<u32, ShareStop>
+    ensures ok { IfOk result (λ after. (count : ℕ) × (after ≡ next + count) × Matches ours.now theirs.now count × ((length ours.now ≡ count) ⊎ (length theirs.now ≡ count)) × (theirs.now ≢ [])) }
+    ensures err { IfErr result (IsOtherPage ours.now theirs.now more next) }
+{
+    let count = same_lines(ours.as_slice(), theirs.as_slice());
+    if theirs.is_empty() {
+        return Err(if more {
+            ShareStop::Log(LogFault::BadAnswer)
+        } else {
+            ShareStop::Ahead
+        });
+    }
+    let Some(after) = add(next, count) else {
+        return Err(ShareStop::Full);
+    };
+    if count < ours.len() && count < theirs.len() {
+        return Err(ShareStop::OtherRecord(after));
+    }
+    Ok(after)
+}
+
+/// Compares the next part of the record with the log, and passes it. Returns whether there was one.
+fn compare_part<S: Alter, L: Log>(
+    registry: &mut Registry<S>,
+    cursor: &mut Cursor<L>,
+) -> Result<bool, ShareStop>
+    ensures ok { (lines : L → LogLines) → IsKept L.Log lines → (h : History) → Represents registry.old h → HasValidFields h → HasPassed lines cursor.old h → HasCleanDisk (state_of registry.new)
+        → IfOk result (λ more. HasPassed lines cursor.new h × Grows (lines cursor.old.log) (lines cursor.new.log) × (more ≡ false → cursor.new.next ≡ length (record_of h))) }
+    ensures err { (lines : L → LogLines) → IsKept L.Log lines → (h : History) → Represents registry.old h → HasValidFields h → HasPassed lines cursor.old h → HasCleanDisk (state_of registry.new)
+        → IfErr result (IsUnshared L.Log lines h cursor.old.log cursor.new.log) }
+    ensures untouched { IsUntouched registry.old registry.new }
+    ensures notes { NotesForeign registry.old registry.new (fault_in result) }
+    ensures passes { IfOk result (λ more. more ≡ true → cursor.old.next < cursor.new.next) }
+{
+    let ours = record_part(cursor.alloc, registry, cursor.next)?;
+    if ours.is_empty() {
+        return Ok(false);
+    }
+    let page = match cursor.log.page(cursor.alloc, cursor.next) {
+        Ok(page) => page,
+        Err(fault) => return Err(ShareStop::Log(fault)),
+    };
+    cursor.next = compare_page(&ours, &page.lines, page.more, cursor.next)?;
+    Ok(true)
+}
+
+/// Compares the record with the log, from the place of the cursor on.
+fn compare<S: Alter, L: Log>(
+    registry: &mut Registry<S>,
+    cursor: &mut Cursor<L>,
+) -> Result<(), ShareStop>
+    ensures ok { (lines : L → LogLines) → IsKept L.Log lines → (h : History) → Represents registry.old h → HasValidFields h → HasPassed lines cursor.old h → HasCleanDisk (state_of registry.new)
+        → OnOk result (HasPassed lines cursor.new h × (cursor.new.next ≡ length (record_of h))) }
+    ensures err { (lines : L → LogLines) → IsKept L.Log lines → (h : History) → Represents registry.old h → HasValidFields h → HasPassed lines cursor.old h → HasCleanDisk (state_of registry.new)
+        → IfErr result (IsUnshared L.Log lines h cursor.old.log cursor.new.log) }
+    ensures untouched { IsUntouched registry.old registry.new }
+    ensures notes { NotesForeign registry.old registry.new (fault_in result) }
+{
+    loop {
+        match compare_part(registry, cursor) {
+            Ok(true) => {}
+            Ok(false) => return Ok(()),
+            Err(stop) => return Err(stop),
+        }
+    }
+}
+
+/// Appends these lines, and passes them.
+fn append_lines<L: Log>(cursor: &mut Cursor<L>, lines: &[Line]) -> Result<(), ShareStop>
+    ensures ok { (log : L → LogLines) → IsKept L.Log log → (h : History) → (rest : LogLines) → drop cursor.old.next (record_of h) ≡ lines.now ++ rest → HasPassed log cursor.old h
+        → OnOk result (HasPassed log cursor.new h × Grows (log cursor.old.log) (log cursor.new.log)) }
+    ensures err { (log : L → LogLines) → IsKept L.Log log → (h : History) → (rest : LogLines) → drop cursor.old.next (record_of h) ≡ lines.now ++ rest → HasPassed log cursor.old h
+        → IfErr result (IsUnshared L.Log log h cursor.old.log cursor.new.log) }
+    ensures never_ahead { result ≢ Err ShareStop.Ahead }
+    ensures passes { OnOk result (cursor.new.next ≡ cursor.old.next + length lines.now) }
+{
+    for line in lines {
+        match cursor.append(line.as_bytes()) {
+            Ok(()) => {}
+            Err(AppendFault::Taken) => return Err(ShareStop::OtherRecord(cursor.next)),
+            Err(AppendFault::Behind) => return Err(ShareStop::Log(LogFault::BadAnswer)),
+            Err(AppendFault::Full) => return Err(ShareStop::Full),
+            Err(AppendFault::NoMemory) => return Err(ShareStop::NoMemory),
+            Err(AppendFault::Log(fault)) => return Err(ShareStop::Log(fault)),
+        }
+    }
+    Ok(())
+}
+
+/// Appends the next part of the record to the log. Returns whether there was one.
+fn append_part<S: Alter, L: Log>(
+    registry: &mut Registry<S>,
+    cursor: &mut Cursor<L>,
+) -> Result<bool, ShareStop>
+    ensures ok { (lines : L → LogLines) → IsKept L.Log lines → (h : History) → Represents registry.old h → HasValidFields h → HasPassed lines cursor.old h → HasCleanDisk (state_of registry.new)
+        → IfOk result (λ more. HasPassed lines cursor.new h × Grows (lines cursor.old.log) (lines cursor.new.log) × (more ≡ false → cursor.new.next ≡ length (record_of h))) }
+    ensures err { (lines : L → LogLines) → IsKept L.Log lines → (h : History) → Represents registry.old h → HasValidFields h → HasPassed lines cursor.old h → HasCleanDisk (state_of registry.new)
+        → IfErr result (IsUnshared L.Log lines h cursor.old.log cursor.new.log) }
+    ensures untouched { IsUntouched registry.old registry.new }
+    ensures notes { NotesForeign registry.old registry.new (fault_in result) }
+    ensures never_ahead { result ≢ Err ShareStop.Ahead }
+    ensures passes { IfOk result (λ more. more ≡ true → cursor.old.next < cursor.new.next) }
+{
+    let ours = record_part(cursor.alloc, registry, cursor.next)?;
+    if ours.is_empty() {
+        return Ok(false);
+    }
+    match append_lines(cursor, ours.as_slice()) {
+        Ok(()) => Ok(true),
+        Err(stop) => Err(stop),
+    }
+}
+
+/// Appends the record to the log, from the place of the cursor on.
+fn append_record<S: Alter, L: Log>(
+    registry: &mut Registry<S>,
+    cursor: &mut Cursor<L>,
+) -> Result<(), ShareStop>
+    ensures ok { (lines : L → LogLines) → IsKept L.Log lines → (h : History) → Represents registry.old h → HasValidFields h → HasPassed lines cursor.old h → HasCleanDisk (state_of registry.new)
+        → OnOk result (HasPassed lines cursor.new h × (cursor.new.next ≡ length (record_of h))) }
+    ensures err { (lines : L → LogLines) → IsKept L.Log lines → (h : History) → Represents registry.old h → HasValidFields h → HasPassed lines cursor.old h → HasCleanDisk (state_of registry.new)
+        → IfErr result (IsUnshared L.Log lines h cursor.old.log cursor.new.log) }
+    ensures untouched { IsUntouched registry.old registry.new }
+    ensures notes { NotesForeign registry.old registry.new (fault_in result) }
+    ensures never_ahead { result ≢ Err ShareStop.Ahead }
+{
+    loop {
+        match append_part(registry, cursor) {
+            Ok(true) => {}
+            Ok(false) => return Ok(()),
+            Err(stop) => return Err(stop),
+        }
+    }
+}
+
+/// Takes up a log that begins with the record of the registry: compares them line by line. Nothing is
+/// committed. Returns the place behind the record.
+///
+/// # Errors
+///
+/// `OtherRecord` at the first line that differs, and `Ahead` if the log ends before the record does.
+/// `Log` if a call of the log got no answer. `Registry` after a fault of the registry. `Full` if the
+/// record has more lines than are counted. `NoMemory` if out of memory.
+pub fn join<S: Alter, L: Log>(
+    alloc: Global,
+    registry: &mut Registry<S>,
+    log: L,
+) -> Result<Cursor<L>, (ShareStop, L)>
+    ensures ok { (lines : L → LogLines) → IsKept L.Log lines → (h : History) → Represents registry.old h → HasValidFields h → HasCleanDisk (state_of registry.new)
+        → IfOk result (λ cursor. Follows L.Log lines registry.new cursor h) }
+    ensures err { (lines : L → LogLines) → IsKept L.Log lines → (h : History) → Represents registry.old h → HasValidFields h → HasCleanDisk (state_of registry.new)
+        → IfErr result (λ e. IsUnshared L.Log lines h log e.1 e.0) }
+    ensures untouched { IsUntouched registry.old registry.new }
+    ensures notes { NotesForeign registry.old registry.new (fault_in (stop_in result)) }
+{
+    let mut cursor = Cursor {
+        alloc,
+        log,
+        next: 0,
+    };
+    match compare(registry, &mut cursor) {
+        Ok(()) => Ok(cursor),
+        Err(stop) => Err((stop, cursor.into_log())),
+    }
+}
+
+/// Puts the record of the registry into a log, line by line. Lines that are there already are compared.
+/// So a call that was stopped can be made again. Nothing is committed. Returns the place
+/// behind the record.
+///
+/// # Errors
+///
+/// As [`join`], but `Ahead` does not come: the log then gets the lines that it lacks.
+pub fn share<S: Alter, L: Log>(
+    alloc: Global,
+    registry: &mut Registry<S>,
+    log: L,
+) -> Result<Cursor<L>, (ShareStop, L)>
+    ensures ok { (lines : L → LogLines) → IsKept L.Log lines → (h : History) → Represents registry.old h → HasValidFields h → HasCleanDisk (state_of registry.new)
+        → IfOk result (λ cursor. Follows L.Log lines registry.new cursor h) }
+    ensures err { (lines : L → LogLines) → IsKept L.Log lines → (h : History) → Represents registry.old h → HasValidFields h → HasCleanDisk (state_of registry.new)
+        → IfErr result (λ e. IsUnshared L.Log lines h log e.1 e.0) }
+    ensures untouched { IsUntouched registry.old registry.new }
+    ensures notes { NotesForeign registry.old registry.new (fault_in (stop_in result)) }
+    ensures never_ahead { IfErr result (λ e. e.0 ≢ ShareStop.Ahead) }
+{
+    let mut cursor = Cursor {
+        alloc,
+        log,
+        next: 0,
+    };
+    match append_record(registry, &mut cursor) {
+        Ok(()) => Ok(cursor),
+        Err(stop) => Err((stop, cursor.into_log())),
+    }
+}

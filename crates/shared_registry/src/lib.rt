@@ -1,0 +1,62 @@
+//! A registry whose record is a log of lines that several machines share.
+//!
+//! Line 0 of the log is the line of the founding, and line n that of the n-th accepted request. The
+//! store of each machine holds a beginning of the log. A registry *follows* a log (`Follows`) if it
+//! represents a history whose record begins the log, and its [`Cursor`] is behind that record.
+//! Whatever the calls below return, each history that a crash may leave in the store is such a
+//! history, and goes on from the one before the call (`IsLeft`). So the laws of `registry_laws` hold
+//! of any two machines that share the log: one has the history of the other or goes on from it, and
+//! a number that has an owner on both has the same one.
+//!
+//! # Following the log
+//!
+//! [`follow`] acts on the lines that the registry has not acted on. After it the registry has the
+//! history of the whole log, as it was at some instant of the call (`HasFollowed`, `WasWhole`). A
+//! line is acted on only if the record goes on with exactly these bytes: its request is new, and the
+//! line that is made of it and its reply now is the same. Nothing is committed for any other line,
+//! and it is named (`OtherRecord`) only if the record goes on with it in no way (`HasOther`).
+//!
+//! # Acting on requests
+//!
+//! [`act`] follows the log and then acts on one request. A new one is appended to the log between
+//! its rows and its commit. The reply is that of the history of the whole log at some instant of the
+//! call, and the registry then follows the log with the request in it (`IsAnswered`). So no answer is
+//! older than one that any machine gave before the call, and an acknowledged request is in the log. If
+//! another machine has taken the number, `act` begins again. A line that is there already is its own
+//! if it has the same bytes.
+//!
+//! After a call without an answer (`Log`) nothing is committed, and the registry goes on. The log may
+//! have the line, or take it later; a later call then acts on it, and a repeat of the request gets
+//! its reply. A fault of the registry poisons it, as `act` of `registry_store` says.
+//!
+//! # Taking up a log
+//!
+//! [`join`] compares the record of a registry with the log, line by line, and [`share`] puts it into
+//! the log. After both the registry follows the log. If not, they say at which line the log has
+//! another record, that it ends before the record does, or which call failed (`IsUnshared`). Neither
+//! commits anything (`IsUntouched`).
+//!
+//! # Premises
+//!
+//! Each clause has the premise that the log keeps its lines (`IsKept` of `shared_log`) and, of a
+//! record that is taken up, that its fields are valid (`HasValidFields`). From then on they are:
+//! [`has_valid_fields`] says so of each request, by its types. A call may always run out of memory
+//! (`NoMemory`); no contract says when.
+#![tactic(auto)]
+
+mod acting;
+mod cursor;
+mod expecting;
+mod following;
+mod joining;
+mod line;
+mod record;
+mod stop;
+mod valid;
+
+pub use acting::act;
+pub use cursor::{AppendFault, Cursor};
+pub use following::follow;
+pub use joining::{join, share};
+pub use stop::ShareStop;
+pub use valid::has_valid_fields;

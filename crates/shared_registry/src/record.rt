@@ -1,0 +1,72 @@
+//! The lines of the record of a registry.
+
+ghost use Rattle.std.specs.Prelude.{◌≡◌, ◌++◌, ℕ, [], length, map, take, IfErr, IfOk};
+ghost use Rattle.sqlite.specs.State.{HasCleanDisk};
+ghost use Rattle.registry_rules.specs.History.{History};
+ghost use Rattle.registry_laws.specs.Machines.{HasValidFields};
+ghost use Rattle.registry_laws.specs.Records.{record_of};
+ghost use Rattle.registry_store.specs.Promise.{Endures, NotesForeign, Represents, state_of};
+ghost use Rattle.registry_store.specs.Queries.{IsUntouched};
+ghost use Rattle.registry_wire.specs.Record.{accepted_line, founding_line};
+ghost use Rattle.shared_registry.specs.Lines.{fault_in};
+ghost use Rattle.shared_registry.specs.Records.{IsNextPart};
+
+use crate::stop::ShareStop;
+use registry_rules::Accepted;
+use registry_store::Registry;
+use registry_wire::{accepted_line, founding_line};
+use shared_log::{Line, Lines};
+use sqlite::Alter;
+use std::alloc::Global;
+use usbnum_core::NoMemory;
+
+/// The most lines that are read at once.
+const PIECE: u32 = 1_000;
+
+/// Returns the lines of accepted requests.
+fn lines_of(alloc: Global, list: &[Accepted]) -> Result<Lines, NoMemory>
+    ensures { IfOk result (λ lines. lines ≡ map accepted_line list.now) }
+{
+    let mut lines = Lines::new(alloc);
+    for accepted in list {
+        let line = accepted_line(alloc, accepted)?;
+        lines.push(Line::new(line.into_bytes()))?;
+    }
+    Ok(lines)
+}
+
+/// Returns the line of the founding.
+fn first_line<S: Alter>(alloc: Global, registry: &mut Registry<S>) -> Result<Lines, ShareStop>
+    ensures ok { (h : History) → Represents registry.old h → HasCleanDisk (state_of registry.new) → IfOk result (λ lines. lines ≡ founding_line h.founding ∷ []) }
+    ensures untouched { IsUntouched registry.old registry.new }
+    ensures notes { NotesForeign registry.old registry.new (fault_in result) }
+{
+    let founding = match registry.first_founding() {
+        Ok(founding) => founding,
+        Err(fault) => return Err(ShareStop::Registry(fault)),
+    };
+    let line = founding_line(alloc, &founding)?;
+    let mut lines = Lines::new(alloc);
+    lines.push(Line::new(line.into_bytes()))?;
+    Ok(lines)
+}
+
+/// Returns lines of the record of the registry, from line `n` on. If there is one, returns at least
+/// one.
+pub(crate) fn record_part<S: Alter>(
+    alloc: Global,
+    registry: &mut Registry<S>,
+    n: u32,
+) -> Result<Lines, ShareStop>
+    ensures ok { (h : History) → Represents registry.old h → HasValidFields h → HasCleanDisk (state_of registry.new) → IfOk result (λ part. IsNextPart (record_of h) n part) }
+    ensures untouched { IsUntouched registry.old registry.new }
+    ensures notes { NotesForeign registry.old registry.new (fault_in result) }
+{
+    let Some(before) = n.checked_sub(1) else {
+        return first_line(alloc, registry);
+    };
+    match registry.accepted_after(u64::from(before), PIECE) {
+        Ok(list) => Ok(lines_of(alloc, &list)?),
+        Err(fault) => Err(ShareStop::Registry(fault)),
+    }
+}
