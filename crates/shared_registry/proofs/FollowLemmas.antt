@@ -1,6 +1,7 @@
 -- A registry that follows a log.
 use Rattle.std.proofs.Common.{◌≡◌, ◌≢◌, ◌≤◌, ◌<◌, ◌⊎◌, ◌∙◌, ◌+◌, ◌-◌, ℕ, zero, suc, List, [], ◌∷◌, ◌++◌, length, drop, slice_get, Option, Some, None, Bool, true, false, inl, inr, Result, Ok, Err, refl, sym, ap, subst, arith}
-use Rattle.std.specs.Prelude.{is_some}
+use Rattle.std.specs.Prelude.{nat_eq}
+use Rattle.std.proofs.lemmas.Bool.{eqb-false, eqb-true}
 use Rattle.std.proofs.lemmas.List.{append-nil, length-append}
 use Rattle.std.proofs.lemmas.Option.{slice_get_within}
 use Rattle.std.proofs.Math.Seq.{drop-append_seam}
@@ -31,6 +32,7 @@ use Rattle.shared_log.specs.Calls.{LogLines, AppendMeans, AtSomeInstant, Grows, 
 use Rattle.shared_log.specs.declared.answers.AppendAnswer.TheVariants as answers
 use Rattle.shared_log.specs.declared.answers.PageAnswer.{PageAnswer}
 use Rattle.shared_log.specs.declared.fault.LogFault.{LogFault}
+use Rattle.shared_log.specs.declared.fault.LogFault.TheVariants.{BadAnswer}
 use Rattle.shared_log.specs.declared.log.Log.{Ghosts as LogGhosts}
 use Rattle.shared_registry.specs.declared.cursor.AppendFault.TheVariants as faults
 use Rattle.shared_registry.specs.declared.cursor.Cursor.{Cursor}
@@ -52,6 +54,14 @@ grows_on a b c one two = (one.0 ++ two.0, two.1 ∙ ap (λ (l : LogLines). l ++ 
 -- with one more line the list has grown
 grows_by : (log : LogLines) (line : List ℕ) (new : LogLines) → Grows (log ++ line ∷ []) new → Grows log new
 grows_by log line new it = grows_on log (log ++ line ∷ []) new (line ∷ [], refl) it
+
+pub no_lines : (xs : LogLines) → nat_eq (length xs) 0 ≡ true → xs ≡ []
+no_lines [] is = refl
+no_lines (x ∷ xs) is = absurd (let none = eqb-true (length (x ∷ xs)) 0 is in omega (arith, none))
+
+pub some_lines : (xs : LogLines) → nat_eq (length xs) 0 ≡ false → 0 < length xs
+some_lines [] is = absurd (eqb-false 0 0 is refl)
+some_lines (x ∷ xs) is = omega arith
 
 -- what lies behind a beginning
 behind : (log front more : LogLines) (n : ℕ) → log ≡ front ++ more → n ≡ length front → drop n log ≡ more
@@ -125,26 +135,7 @@ grows_over log new h page front back it split =
     it.there.held ∙ ap (λ (l : LogLines). record_of h ++ (l ++ it.rest)) split ∙ ap (λ (l : LogLines). record_of h ++ l) (appended_twice front back it.rest) ∙ sym (appended_twice (record_of h) front (back ++ it.rest)) in
     grows_on (record_of h ++ front) it.there.instant new (back ++ it.rest, is) it.there.after
 
-module _ {S : Type 0} {g : Ghosts S} {L : Type 0} (l : LogGhosts L) (lines : L → LogLines) where
-  -- a whole page was acted on
-  pub page_followed : (old : Registry S g) (c : Cursor L) (new : Registry S g) (c_new : Cursor L) (h x : History) (page : PageAnswer) → Follows l lines old c h → IsRead (lines c.log) (lines c_new.log) h page
-      → GoesOver h page.lines x → Represents new x → c_new.next ≡ c.next + length page.lines → HasFollowedPage l lines c new c_new h page.more
-  page_followed old c new c_new h x page follows read over now counted = record {
-    now = x;
-    leads = over.leads;
-    follows = record {
-      represents = now;
-      of_machine = of_machine (lines c.log) (lines c_new.log) h x page.lines follows.of_machine over (grows_over _ _ h page page.lines [] read (sym (append-nil page.lines)));
-      next = counted ∙ ap (λ (n : ℕ). n + length page.lines) follows.next ∙ sym (length-append (record_of h) page.lines) ∙ ap length (sym over.written);
-    };
-    whole = λ none. record {
-      instant = read.there.instant;
-      before = read.there.before;
-      after = read.there.after;
-      held = read.there.held ∙ ap (λ (r : LogLines). record_of h ++ (page.lines ++ r)) (read.last none) ∙ ap (λ (r : LogLines). record_of h ++ r) (append-nil page.lines) ∙ sym over.written;
-    };
-  }
-
+module _ {L : Type 0} (l : LogGhosts L) (lines : L → LogLines) where
   -- what a crash may leave where the line may have been acted on
   left_one : (c_new : Cursor L) (s : State) (h last : History) (line : List ℕ) → LeadsTo h last → IsOfMachine (lines c_new.log) last → Grows (record_of last ++ line ∷ []) (lines c_new.log)
       → Leaves newest s (λ x. (x ≡ last) ⊎ Continues last line x) → Leaves newest s (λ x. IsOfMachine (lines c_new.log) x × LeadsTo h x)
@@ -159,76 +150,9 @@ module _ {S : Type 0} {g : Ghosts S} {L : Type 0} (l : LogGhosts L) (lines : L �
         it.2,
       )
 
-  -- what stopped it before a line is left so
-  stopped_at : (c : Cursor L) (new : Registry S g) (c_new : Cursor L) (h last : History) (rest more : LogLines) (now : ℕ) → LeadsTo h last → IsOfMachine (lines c_new.log) last → c_new.next ≡ length (record_of last) → now ≡ c_new.next
-      → AtSomeInstant (lines c.log) (lines c_new.log) (λ log. log ≡ record_of last ++ (rest ++ more)) → (stop : ShareStop) → IsStoppedBefore new last rest now stop → IsLeft l lines c new c_new h stop
-  stopped_at c new c_new h last [] more now leads of next at there stop it = absurd it
-  stopped_at c new c_new h last (line ∷ others) more now leads of next at there (stops.Registry fault) it = (
-    it.0,
-    left_one c_new (state_of new) h last line leads of
-        (grows_on (record_of last ++ line ∷ []) there.instant (lines c_new.log) (others ++ more, there.held ∙ sym (appended_twice (record_of last) (line ∷ []) (others ++ more))) there.after) it.1,
-  )
-  stopped_at c new c_new h last (line ∷ others) more now leads of next at there (stops.OtherRecord n) it = (
-    last,
-    leads,
-    record { represents = it.1; of_machine = of; next = next },
-    it.0 ∙ at ∙ next,
-    record {
-      line = line;
-      there = record {
-        instant = there.instant;
-        before = there.before;
-        after = there.after;
-        held = ap (λ (log : LogLines). slice_get log n) there.held ∙ ap (slice_get (record_of last ++ line ∷ (others ++ more))) (it.0 ∙ at ∙ next) ∙ line_behind (record_of last) (others ++ more) line;
-      };
-      other = it.2;
-    },
-  )
-  stopped_at c new c_new h last (line ∷ others) more now leads of next at there stops.Full it = ((last, leads, record { represents = it.0; of_machine = of; next = next }), sym at ∙ it.1)
-  stopped_at c new c_new h last (line ∷ others) more now leads of next at there stops.NoMemory it = (last, leads, record { represents = it; of_machine = of; next = next })
-  stopped_at c new c_new h last (line ∷ others) more now leads of next at there (stops.Log fault) it = absurd it
-  stopped_at c new c_new h last (line ∷ others) more now leads of next at there stops.Ahead it = absurd it
-
-  -- a page was acted on up to what stopped it
-  pub page_stopped : (old : Registry S g) (c : Cursor L) (new : Registry S g) (c_new : Cursor L) (h : History) (page : PageAnswer) → Follows l lines old c h → IsRead (lines c.log) (lines c_new.log) h page
-      → (stop : ShareStop) → IsStoppedIn new h page.lines c.next c_new.next stop → IsLeft l lines c new c_new h stop
-  page_stopped old c new c_new h page follows read stop it =
-      let there = read.there in
-      stopped_at c new c_new h it.last it.rest read.rest c_new.next it.over.leads
-      (of_machine (lines c.log) (lines c_new.log) h it.last it.front follows.of_machine it.over (grows_over _ _ h page it.front it.rest read it.split))
-      (it.counted ∙ ap (λ (n : ℕ). n + length it.front) follows.next ∙ sym (length-append (record_of h) it.front) ∙ ap length (sym it.over.written)) refl
-      (record {
-        instant = there.instant;
-        before = there.before;
-        after = there.after;
-        held = there.held ∙ ap (λ (p : LogLines). record_of h ++ (p ++ read.rest)) it.split ∙ ap (λ (p : LogLines). record_of h ++ p) (appended_twice it.front it.rest read.rest)
-            ∙ sym (appended_twice (record_of h) it.front (it.rest ++ read.rest)) ∙ ap (λ (p : LogLines). p ++ (it.rest ++ read.rest)) (sym it.over.written);
-      }) stop it.stopped
-
-  -- ---- calls one after another
-
-  -- nothing but the log has changed, which has grown
-  pub still_follows : (old : Registry S g) (c : Cursor L) (new : Registry S g) (c_new : Cursor L) (h : History) → Follows l lines old c h → Represents new h → Grows (lines c.log) (lines c_new.log) → c_new.next ≡ c.next → Follows l lines new c_new h
-  still_follows old c new c_new h follows stays grown same =
-      record { represents = stays; of_machine = still_of (lines c.log) (lines c_new.log) h follows.of_machine grown; next = same ∙ follows.next }
-
-  failed_since : (start c : L) (now : L) (fault : LogFault) → Grows (lines start) (lines c) → HasFailed l lines c now fault → HasFailed l lines start now fault
+  -- a call that failed later
+  pub failed_since : (start c : L) (now : L) (fault : LogFault) → Grows (lines start) (lines c) → HasFailed l lines c now fault → HasFailed l lines start now fault
   failed_since start c now fault grown it = record { old = it.old; grown = grows_on (lines start) (lines c) (lines it.old) grown it.grown; failed = it.failed }
-
-  -- what a later call left is what the calls together left
-  pub left_since : (start c : Cursor L) (new : Registry S g) (c_new : Cursor L) (h now : History) → Grows (lines start.log) (lines c.log) → LeadsTo h now → (stop : ShareStop) → IsLeft l lines c new c_new now stop → IsLeft l lines start new c_new h stop
-  left_since start c new c_new h now grown leads (stops.Registry fault) it = (it.0, λ db may. let x = it.1 db may in (x.0, (x.1.0, leads_on h now x.0 leads x.1.1), x.2))
-  left_since start c new c_new h now grown leads (stops.Log fault) it = ((it.0.0, leads_on h now it.0.0 leads it.0.1, it.0.2), failed_since start.log c.log c_new.log fault grown it.1)
-  left_since start c new c_new h now grown leads (stops.OtherRecord n) it = (
-    it.0,
-    leads_on h now it.0 leads it.1,
-    it.2,
-    it.3,
-    record { line = it.4.line; there = earlier_start (lines start.log) (lines c.log) (lines c_new.log) _ grown it.4.there; other = it.4.other },
-  )
-  left_since start c new c_new h now grown leads stops.Ahead it = it
-  left_since start c new c_new h now grown leads stops.Full it = ((it.0.0, leads_on h now it.0.0 leads it.0.1, it.0.2), it.1)
-  left_since start c new c_new h now grown leads stops.NoMemory it = (it.0, leads_on h now it.0 leads it.1, it.2)
 
   -- ---- an append
 
@@ -300,6 +224,173 @@ module _ {S : Type 0} {g : Ghosts S} {L : Type 0} (l : LogGhosts L) (lines : L �
           let long = longer front means.instant (from_here means.instant means.before) in
           omega (arith, means.held, long, next)
 
+module _ {S : Type 0} {g : Ghosts S} {L : Type 0} (l : LogGhosts L) (lines : L → LogLines) where
+  -- a whole page was acted on
+  pub page_followed : (old : Registry S g) (c : Cursor L) (new : Registry S g) (c_new : Cursor L) (h x : History) (page : PageAnswer) → Follows l lines old c h → IsRead (lines c.log) (lines c_new.log) h page
+      → GoesOver h page.lines x → Represents new x → c_new.next ≡ c.next + length page.lines → HasFollowedPage l lines c new c_new h page.more
+  page_followed old c new c_new h x page follows read over now counted = record {
+    now = x;
+    leads = over.leads;
+    follows = record {
+      represents = now;
+      of_machine = of_machine (lines c.log) (lines c_new.log) h x page.lines follows.of_machine over (grows_over _ _ h page page.lines [] read (sym (append-nil page.lines)));
+      next = counted ∙ ap (λ (n : ℕ). n + length page.lines) follows.next ∙ sym (length-append (record_of h) page.lines) ∙ ap length (sym over.written);
+    };
+    grown = at_instant_grows (lines c.log) (lines c_new.log) _ read.there;
+    whole = λ none. record {
+      instant = read.there.instant;
+      before = read.there.before;
+      after = read.there.after;
+      held = read.there.held ∙ ap (λ (r : LogLines). record_of h ++ (page.lines ++ r)) (read.last none) ∙ ap (λ (r : LogLines). record_of h ++ r) (append-nil page.lines) ∙ sym over.written;
+    };
+  }
+
+  -- what stopped it before a line is left so
+  stopped_at : (c : Cursor L) (new : Registry S g) (c_new : Cursor L) (h last : History) (rest more : LogLines) (now : ℕ) → LeadsTo h last → IsOfMachine (lines c_new.log) last → c_new.next ≡ length (record_of last) → now ≡ c_new.next
+      → AtSomeInstant (lines c.log) (lines c_new.log) (λ log. log ≡ record_of last ++ (rest ++ more)) → (stop : ShareStop) → IsStoppedBefore new last rest now stop → IsLeft l lines c new c_new h stop
+  stopped_at c new c_new h last [] more now leads of next at there stop it = absurd it
+  stopped_at c new c_new h last (line ∷ others) more now leads of next at there (stops.Registry fault) it = (
+    it.0,
+    left_one l lines c_new (state_of new) h last line leads of
+        (grows_on (record_of last ++ line ∷ []) there.instant (lines c_new.log) (others ++ more, there.held ∙ sym (appended_twice (record_of last) (line ∷ []) (others ++ more))) there.after) it.1,
+  )
+  stopped_at c new c_new h last (line ∷ others) more now leads of next at there (stops.OtherRecord n) it = (
+    last,
+    leads,
+    record { represents = it.1; of_machine = of; next = next },
+    it.0 ∙ at ∙ next,
+    record {
+      line = line;
+      there = record {
+        instant = there.instant;
+        before = there.before;
+        after = there.after;
+        held = ap (λ (log : LogLines). slice_get log n) there.held ∙ ap (slice_get (record_of last ++ line ∷ (others ++ more))) (it.0 ∙ at ∙ next) ∙ line_behind (record_of last) (others ++ more) line;
+      };
+      other = it.2;
+    },
+  )
+  stopped_at c new c_new h last (line ∷ others) more now leads of next at there stops.Full it = ((last, leads, record { represents = it.0; of_machine = of; next = next }), sym at ∙ it.1)
+  stopped_at c new c_new h last (line ∷ others) more now leads of next at there stops.NoMemory it = (last, leads, record { represents = it; of_machine = of; next = next })
+  stopped_at c new c_new h last (line ∷ others) more now leads of next at there (stops.Log fault) it = absurd it
+  stopped_at c new c_new h last (line ∷ others) more now leads of next at there stops.Ahead it = absurd it
+
+  -- a page was acted on up to what stopped it
+  pub page_stopped : (old : Registry S g) (c : Cursor L) (new : Registry S g) (c_new : Cursor L) (h : History) (page : PageAnswer) → Follows l lines old c h → IsRead (lines c.log) (lines c_new.log) h page
+      → (stop : ShareStop) → IsStoppedIn new h page.lines c.next c_new.next stop → IsLeft l lines c new c_new h stop
+  page_stopped old c new c_new h page follows read stop it =
+      let there = read.there in
+      stopped_at c new c_new h it.last it.rest read.rest c_new.next it.over.leads
+      (of_machine (lines c.log) (lines c_new.log) h it.last it.front follows.of_machine it.over (grows_over _ _ h page it.front it.rest read it.split))
+      (it.counted ∙ ap (λ (n : ℕ). n + length it.front) follows.next ∙ sym (length-append (record_of h) it.front) ∙ ap length (sym it.over.written)) refl
+      (record {
+        instant = there.instant;
+        before = there.before;
+        after = there.after;
+        held = there.held ∙ ap (λ (p : LogLines). record_of h ++ (p ++ read.rest)) it.split ∙ ap (λ (p : LogLines). record_of h ++ p) (appended_twice it.front it.rest read.rest)
+            ∙ sym (appended_twice (record_of h) it.front (it.rest ++ read.rest)) ∙ ap (λ (p : LogLines). p ++ (it.rest ++ read.rest)) (sym it.over.written);
+      }) stop it.stopped
+
+  -- ---- calls one after another
+
+  -- nothing but the log has changed, which has grown
+  pub still_follows : (old : Registry S g) (c : Cursor L) (new : Registry S g) (c_new : Cursor L) (h : History) → Follows l lines old c h → Represents new h → Grows (lines c.log) (lines c_new.log) → c_new.next ≡ c.next → Follows l lines new c_new h
+  still_follows old c new c_new h follows stays grown same =
+      record { represents = stays; of_machine = still_of (lines c.log) (lines c_new.log) h follows.of_machine grown; next = same ∙ follows.next }
+
+  -- an answer without a line, which said that there were more
+  pub empty_page : IsKept l lines → (it : Registry S g) (c c_new : Cursor L) (h : History) → Follows l lines it c h → (page : PageAnswer) → l.reads c.log c_new.log c.next page → c_new.next ≡ c.next → page.lines ≡ [] → page.more ≡ true
+      → FollowsLater l lines it c_new h × HasFailed l lines c.log c_new.log BadAnswer
+  empty_page kept it c c_new h follows page reads same none more = (
+    (h, leads_nowhere h, still_follows it c it c_new h follows follows.represents (at_instant_grows (lines c.log) (lines c_new.log) _ (kept.reads c.log c_new.log c.next page reads)) same),
+    record { old = c.log; grown = grows_none (lines c.log); failed = inr (c.next, page, reads, none, more, refl) },
+  )
+
+  -- what a later call left is what the calls together left
+  pub left_since : (start c : Cursor L) (new : Registry S g) (c_new : Cursor L) (h now : History) → Grows (lines start.log) (lines c.log) → LeadsTo h now → (stop : ShareStop) → IsLeft l lines c new c_new now stop → IsLeft l lines start new c_new h stop
+  left_since start c new c_new h now grown leads (stops.Registry fault) it = (it.0, λ db may. let x = it.1 db may in (x.0, (x.1.0, leads_on h now x.0 leads x.1.1), x.2))
+  left_since start c new c_new h now grown leads (stops.Log fault) it = ((it.0.0, leads_on h now it.0.0 leads it.0.1, it.0.2), failed_since l lines start.log c.log c_new.log fault grown it.1)
+  left_since start c new c_new h now grown leads (stops.OtherRecord n) it = (
+    it.0,
+    leads_on h now it.0 leads it.1,
+    it.2,
+    it.3,
+    record { line = it.4.line; there = earlier_start (lines start.log) (lines c.log) (lines c_new.log) _ grown it.4.there; other = it.4.other },
+  )
+  left_since start c new c_new h now grown leads stops.Ahead it = it
+  left_since start c new c_new h now grown leads stops.Full it = ((it.0.0, leads_on h now it.0.0 leads it.0.1, it.0.2), it.1)
+  left_since start c new c_new h now grown leads stops.NoMemory it = (it.0, leads_on h now it.0 leads it.1, it.2)
+
+  -- the calls so far: the registry follows a later history
+  pub record HasGoneOn (start : Cursor L) (it : Registry S g) (c : Cursor L) (h : History) : Type 0 where
+    pub now : History
+    pub leads : LeadsTo h now
+    pub follows : Follows l lines it c now
+    pub grown : Grows (lines start.log) (lines c.log)
+
+  pub gone_nowhere : (it : Registry S g) (c : Cursor L) (h : History) → Follows l lines it c h → HasGoneOn c it c h
+  gone_nowhere it c h follows = record { now = h; leads = leads_nowhere h; follows = follows; grown = grows_none (lines c.log) }
+
+  pub gone_on : (start c : Cursor L) (it new : Registry S g) (c_new : Cursor L) (h : History) (more : Bool) → (so_far : HasGoneOn start it c h) → HasFollowedPage l lines c new c_new so_far.now more → HasGoneOn start new c_new h
+  gone_on start c it new c_new h more so_far page = record {
+    now = page.now;
+    leads = leads_on h so_far.now page.now so_far.leads page.leads;
+    follows = page.follows;
+    grown = grows_on (lines start.log) (lines c.log) (lines c_new.log) so_far.grown page.grown;
+  }
+
+  pub all_followed : (start c : Cursor L) (it new : Registry S g) (c_new : Cursor L) (h : History) → (so_far : HasGoneOn start it c h) → HasFollowedPage l lines c new c_new so_far.now false → HasFollowed l lines start new c_new h
+  all_followed start c it new c_new h so_far page = record {
+    now = page.now;
+    leads = leads_on h so_far.now page.now so_far.leads page.leads;
+    follows = page.follows;
+    whole = earlier_start (lines start.log) (lines c.log) (lines c_new.log) (λ log. log ≡ record_of page.now) so_far.grown (page.whole refl);
+  }
+
+  pub left_later : (start c : Cursor L) (it new : Registry S g) (c_new : Cursor L) (h : History) → (so_far : HasGoneOn start it c h) → (stop : ShareStop) → IsLeft l lines c new c_new so_far.now stop → IsLeft l lines start new c_new h stop
+  left_later start c it new c_new h so_far stop it_left = left_since start c new c_new h so_far.now so_far.grown so_far.leads stop it_left
+
+  pub left_after : (start : Cursor L) (it : Registry S g) (c : Cursor L) (new : Registry S g) (c_new : Cursor L) (h : History) → (followed : HasFollowed l lines start it c h) → (stop : ShareStop) → IsLeft l lines c new c_new followed.now stop → IsLeft l lines start new c_new h stop
+  left_after start it c new c_new h followed stop it_left =
+      left_since start c new c_new h followed.now (at_instant_grows (lines start.log) (lines c.log) (λ log. log ≡ record_of followed.now) followed.whole) followed.leads stop it_left
+
+  -- another line was under the next number
+  pub after_other : (start : Cursor L) (it : Registry S g) (c : Cursor L) (new : Registry S g) (c_new : Cursor L) (h : History) (r : Request) → (followed : HasFollowed l lines start it c h) → HasActed l lines c new c_new followed.now r None → HasGoneOn start new c_new h
+  after_other start it c new c_new h r followed other = record {
+    now = followed.now;
+    leads = followed.leads;
+    follows = other.0;
+    grown = grows_on (lines start.log) (lines c.log) (lines c_new.log) (at_instant_grows (lines start.log) (lines c.log) (λ log. log ≡ record_of followed.now) followed.whole) other.1;
+  }
+
+  pub followed_again : (start : Cursor L) (it : Registry S g) (c : Cursor L) (new : Registry S g) (c_new : Cursor L) (h : History) → (so_far : HasGoneOn start it c h) → HasFollowed l lines c new c_new so_far.now → HasFollowed l lines start new c_new h
+  followed_again start it c new c_new h so_far followed = record {
+    now = followed.now;
+    leads = leads_on h so_far.now followed.now so_far.leads followed.leads;
+    follows = followed.follows;
+    whole = earlier_start (lines start.log) (lines c.log) (lines c_new.log) (λ log. log ≡ record_of followed.now) so_far.grown followed.whole;
+  }
+
+  -- a log that is longer than the record has a further line to follow
+  pub shows_line : (it : Registry S g) (c : Cursor L) (new : Registry S g) (c_new : Cursor L) (h : History) → Follows l lines it c h → length (record_of h) < length (lines c.log) → HasFollowed l lines c new c_new h → c.next < c_new.next
+  shows_line it c new c_new h follows more followed =
+      let whole = followed.whole in
+      let long = longer (lines c.log) whole.instant whole.before in
+      let count : length whole.instant ≡ length (record_of followed.now) = ap length whole.held in
+      let here = follows.next in
+      let there = followed.follows.next in
+      omega (arith, more, long, count, here, there)
+
+  pub answered : (start : Cursor L) (it : Registry S g) (c : Cursor L) (new : Registry S g) (c_new : Cursor L) (h : History) (r : Request) (reply : Reply) → (followed : HasFollowed l lines start it c h) → HasActed l lines c new c_new followed.now r (Some reply)
+      → IsAnswered l lines start new c_new h r reply
+  answered start it c new c_new h r reply followed acted = record {
+    before = followed.now;
+    leads = followed.leads;
+    whole = later_end (lines start.log) (lines c.log) (lines c_new.log) (λ log. log ≡ record_of followed.now) followed.whole acted.1;
+    reply_is = acted.2;
+    follows = acted.0;
+  }
+
   -- ---- a request
 
   module _ (kept : IsKept l lines) (old : Registry S g) (c : Cursor L) (new : Registry S g) (c_new : Cursor L) (h : History) (r : Request) (follows : Follows l lines old c h) where
@@ -308,7 +399,7 @@ module _ {S : Type 0} {g : Ghosts S} {L : Type 0} (l : LogGhosts L) (lines : L �
 
     shown_of : (deed : Deed) → verdict h r ≡ New deed → WasShown l c c_new r (act_text deed.act) → IsOfMachine (lines c_new.log) (with_deed h deed)
     shown_of deed is shown =
-        of_machine (lines c.log) (lines c_new.log) h (with_deed h deed) _ follows.of_machine (over_shown deed is shown) (line_taken kept c c_new (record_of h) follows.of_machine.begins follows.next _ shown.line)
+        of_machine (lines c.log) (lines c_new.log) h (with_deed h deed) _ follows.of_machine (over_shown deed is shown) (line_taken l lines kept c c_new (record_of h) follows.of_machine.begins follows.next _ shown.line)
 
     shown_next : (deed : Deed) → verdict h r ≡ New deed → WasShown l c c_new r (act_text deed.act) → c_new.next ≡ length (record_of (with_deed h deed))
     shown_next deed is shown =
@@ -321,7 +412,7 @@ module _ {S : Type 0} {g : Ghosts S} {L : Type 0} (l : LogGhosts L) (lines : L �
     WasAskedIfNew Heard = (c_new ≡ c) ⊎ ((deed : Deed) × (verdict h r ≡ New deed) × Heard deed)
 
     same_after : c_new ≡ c → Represents new h → Follows l lines new c_new h
-    same_after same stays = still_follows old c new c_new h follows stays (same_grows kept c c_new same) (ap (λ (d : Cursor L). d.next) same)
+    same_after same stays = still_follows old c new c_new h follows stays (same_grows l lines kept c c_new same) (ap (λ (d : Cursor L). d.next) same)
 
     not_new : (Heard : Deed → Type 0) (v : Verdict) → verdict h r ≡ v → ((deed : Deed) → v ≢ New deed) → WasAskedIfNew Heard → c_new ≡ c
     not_new Heard v is other (inl same) = same
@@ -343,10 +434,14 @@ module _ {S : Type 0} {g : Ghosts S} {L : Type 0} (l : LogGhosts L) (lines : L �
         → Represents new (after_one h r) → Follows l lines new c_new (after_one h r)
     acted asked shown now = acted_by (verdict h r) refl asked shown now
 
+    pub grown_acted : WasAskedIfNew (λ deed. WasShown l c c_new r (act_text deed.act)) → Grows (lines c.log) (lines c_new.log)
+    grown_acted (inl same) = same_grows l lines kept c c_new same
+    grown_acted (inr (deed, is, shown)) = line_grows l lines kept c c_new _ shown.line
+
     -- the request was not shown to a log that took its line, and all stays
     pub unacted : (line : List ℕ) (fault : _) → HasNoLine l c c_new line fault → IsUntouched old new → Follows l lines new c_new h
     unacted line fault it left =
-        still_follows old c new c_new h follows (left.stays h follows.represents) (no_line_grows kept c c_new line fault it) (no_line_next kept c c_new line fault it)
+        still_follows old c new c_new h follows (left.stays h follows.represents) (no_line_grows l lines kept c c_new line fault it) (no_line_next l lines kept c c_new line fault it)
 
     pub unacted_later : (line : List ℕ) (fault : _) → HasNoLine l c c_new line fault → IsUntouched old new → FollowsLater l lines new c_new h
     unacted_later line fault it left = (h, leads_nowhere h, unacted line fault it left)
@@ -356,9 +451,9 @@ module _ {S : Type 0} {g : Ghosts S} {L : Type 0} (l : LogGhosts L) (lines : L �
 
     -- a fault of the registry: the witness may have seen the request
     grown_by_fault : WasAskedIfNew (λ deed. (c_new ≡ c) ⊎ WasShown l c c_new r (act_text deed.act)) → Grows (lines c.log) (lines c_new.log)
-    grown_by_fault (inl same) = same_grows kept c c_new same
-    grown_by_fault (inr (deed, is, inl same)) = same_grows kept c c_new same
-    grown_by_fault (inr (deed, is, inr shown)) = line_grows kept c c_new _ shown.line
+    grown_by_fault (inl same) = same_grows l lines kept c c_new same
+    grown_by_fault (inr (deed, is, inl same)) = same_grows l lines kept c c_new same
+    grown_by_fault (inr (deed, is, inr shown)) = line_grows l lines kept c c_new _ shown.line
 
     stays_of : (x : History) → Grows (lines c.log) (lines c_new.log) → x ≡ h → IsOfMachine (lines c_new.log) x × LeadsTo h x
     stays_of x grown same = (subst (IsOfMachine (lines c_new.log)) (sym same) (still_of (lines c.log) (lines c_new.log) h follows.of_machine grown), subst (LeadsTo h) (sym same) (leads_nowhere h))

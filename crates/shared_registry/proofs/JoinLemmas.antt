@@ -1,6 +1,6 @@
 -- A record compared with a log, or put into it.
 use Rattle.std.proofs.Common.{◌≡◌, ◌≢◌, ◌≤◌, ◌<◌, ◌⊎◌, ◌∙◌, ◌+◌, ◌-◌, ℕ, zero, suc, List, [], ◌∷◌, ◌++◌, length, map, take, drop, slice_get, Option, Some, None, Bool, true, false, inl, inr, Result, Ok, Err, refl, sym, ap, subst, arith}
-use Rattle.std.specs.Prelude.{All}
+use Rattle.std.specs.Prelude.{All, ⊤}
 use Rattle.std.proofs.lemmas.List.{append-nil, length-append, length-drop, take-append-drop, take-append-le}
 use Rattle.std.proofs.lemmas.List.Elements.{All-cons, All-head, All-nil, All-tail}
 use Rattle.std.proofs.Math.Seq.{take-add}
@@ -29,7 +29,8 @@ use Rattle.shared_registry.specs.declared.stop.ShareStop.TheVariants as stops
 use Rattle.shared_registry.specs.Cursors.{HasLine, HasNoLine}
 use Rattle.shared_registry.specs.Follows.{HasFailed}
 use Rattle.shared_registry.specs.Records.{HasPassed, IsApart, IsNextPart, IsOtherPage, IsUnshared, Matches}
-use Rattle.shared_registry.proofs.FollowLemmas.{earlier_start, failed_since, grows_none, grows_on, line_taken, no_line_grows}
+use Rattle.shared_registry.proofs.FollowLemmas.{earlier_start, grows_none, grows_on, line_taken, no_line_grows}
+use Rattle.shared_registry.proofs.LineLemmas.{long_front}
 
 -- ---- the fields of a history are valid
 
@@ -84,23 +85,18 @@ next_founding h part is = record {
 -- ---- places in lists
 
 at_sum : (xs ys : LogLines) (k : ℕ) → slice_get (xs ++ ys) (length xs + k) ≡ slice_get ys k
-at_sum [] ys k = refl
-at_sum (x ∷ xs) ys k = at_sum xs ys k
+at_sum [] ys k = (let none : 0 + k ≡ k = omega arith in ap (slice_get ys) none)
+at_sum (x ∷ xs) ys k = (let more : suc (length xs) + k ≡ suc (length xs + k) = omega arith in ap (slice_get (x ∷ (xs ++ ys))) more ∙ at_sum xs ys k)
 
 at_dropped : (n : ℕ) (xs : LogLines) (k : ℕ) → slice_get xs (n + k) ≡ slice_get (drop n xs) k
-at_dropped zero xs k = refl
+at_dropped zero xs k = (let none : 0 + k ≡ k = omega arith in ap (slice_get xs) none)
 at_dropped (suc n) [] k = refl
-at_dropped (suc n) (x ∷ xs) k = at_dropped n xs k
+at_dropped (suc n) (x ∷ xs) k = (let more : suc n + k ≡ suc (n + k) = omega arith in ap (slice_get (x ∷ xs)) more ∙ at_dropped n xs k)
 
 some_at : (xs : LogLines) (k : ℕ) → k < length xs → (line : List ℕ) × (slice_get xs k ≡ Some line)
 some_at [] k lt = absurd (omega (arith, lt))
 some_at (x ∷ xs) zero lt = (x, refl)
 some_at (x ∷ xs) (suc k) lt = some_at xs k (omega (arith, lt))
-
-long_front : (n : ℕ) (xs : LogLines) → n ≤ length xs → length (take n xs) ≡ n
-long_front zero xs le = refl
-long_front (suc n) [] le = absurd (omega (arith, le))
-long_front (suc n) (x ∷ xs) le = ap suc (long_front n xs (omega (arith, le)))
 
 all_of : (n : ℕ) (xs : LogLines) → length xs ≤ n → take n xs ≡ xs
 all_of zero [] le = refl

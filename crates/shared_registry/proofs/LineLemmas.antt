@@ -1,10 +1,12 @@
 -- The lines with which the record of a history goes on.
-use Rattle.std.proofs.Common.{◌≡◌, ◌≢◌, ◌⊎◌, ◌∙◌, ◌+◌, ℕ, List, [], ◌∷◌, ◌++◌, length, Option, Some, None, Bool, true, false, inl, inr, Result, Ok, Err, refl, sym, ap, subst}
+use Rattle.std.proofs.Common.{◌≡◌, ◌≢◌, ◌≤◌, ◌<◌, ◌⊎◌, ◌∙◌, ◌+◌, ℕ, zero, suc, List, [], ◌∷◌, ◌++◌, length, take, drop, Option, Some, None, Bool, true, false, inl, inr, Result, Ok, Err, refl, sym, ap, subst, arith}
 use Rattle.std.specs.Prelude.{All, OnOk, is_some}
-use Rattle.std.proofs.lemmas.List.{append-nil}
+use Rattle.std.proofs.lemmas.List.{append-nil, take-append-drop}
 use Rattle.std.proofs.lemmas.List.Elements.{All-append, All-cons, All-nil}
+use Rattle.std.proofs.Math.ListN.{get_or}
+use Rattle.std.proofs.Math.Seq.{drop-cons, take-suc}
 use Rattle.sqlite.specs.Store.{Ghosts}
-use Rattle.sqlite.specs.State.{State}
+use Rattle.sqlite.specs.State.{State, HasCleanDisk}
 use Rattle.registry_rules.specs.Accepted.{accepted_by, accepted_of}
 use Rattle.registry_rules.specs.History.{History, with_deed}
 use Rattle.registry_rules.specs.Reply.{act_text}
@@ -27,15 +29,17 @@ use Rattle.registry_laws.specs.Records.{IsAccepted, record_of}
 use Rattle.registry_laws.proofs.LineLemmas.{accepted_read}
 use Rattle.registry_laws.proofs.MachineLemmas.{after_both, appended_twice, record_with}
 use Rattle.registry_tables.specs.Rows.{newest}
-use Rattle.registry_store.specs.Promise.{Leaves, Represents}
+use Rattle.registry_store.specs.Promise.{Endures, Leaves, Represents}
 use Rattle.registry_store.specs.Witness.{WasSeen}
 use Rattle.registry_store.specs.declared.registry.Registry.{Registry}
 use Rattle.shared_log.specs.Calls.{LogLines}
 use Rattle.shared_registry.specs.declared.expecting.Expected.{Expected}
 use Rattle.shared_registry.specs.declared.expecting.Unexpected.{Unexpected}
-use Rattle.shared_registry.specs.declared.expecting.Unexpected.TheVariants.{Other}
+use Rattle.shared_registry.specs.declared.expecting.Unexpected.TheVariants.{NoMemory, Other}
+use Rattle.shared_registry.specs.declared.stop.ShareStop.{ShareStop}
+use Rattle.shared_registry.specs.declared.stop.ShareStop.TheVariants as stops
 use Rattle.shared_registry.specs.Cursors.{accepted_as}
-use Rattle.shared_registry.specs.Lines.{Continues, ContinuesBy, GoesOver, IsExpected, IsUnexpected, LeadsToLine}
+use Rattle.shared_registry.specs.Lines.{Continues, ContinuesBy, GoesOver, IsExpected, IsStoppedAt, IsStoppedBefore, IsStoppedIn, IsUnexpected, LeadsToLine, stop_for}
 
 -- ---- one line
 
@@ -85,6 +89,65 @@ over_both h x y front rest over it = record {
   valid = λ valid. it.valid (over.valid valid);
 }
 
+-- ---- lines of a list
+
+pub long_front : (n : ℕ) (xs : LogLines) → n ≤ length xs → length (take n xs) ≡ n
+long_front zero xs le = refl
+long_front (suc n) [] le = absurd (omega (arith, le))
+long_front (suc n) (x ∷ xs) le = ap suc (long_front n xs (omega (arith, le)))
+
+-- with the next line of a list
+pub one_more : (h x y : History) (lines : LogLines) (i : ℕ) (line : List ℕ) → i < length lines → line ≡ get_or lines i line → GoesOver h (take i lines) x → Continues x line y → GoesOver h (take (i + 1) lines) y
+one_more h x y lines i line lt is over by =
+    let next : i + 1 ≡ suc i = omega arith in
+    let more : take (i + 1) lines ≡ take i lines ++ line ∷ [] = ap (λ (k : ℕ). take k lines) next ∙ take-suc lines i line lt ∙ ap (λ (l : List ℕ). take i lines ++ l ∷ []) (sym is) in
+    subst (λ (l : LogLines). GoesOver h l y) (sym more) (over_both h x y (take i lines) (line ∷ []) over (over_one x by.0 line y by.1))
+
+module _ {S : Type 0} {g : Ghosts S} (new : Registry S g) where
+  -- what stopped it at the line behind the first ones of a list
+  pub stopped_in : (h x : History) (lines : LogLines) (i : ℕ) (line : List ℕ) (n now : ℕ) → i < length lines → line ≡ get_or lines i line → now ≡ n + i → GoesOver h (take i lines) x → (stop : ShareStop)
+      → ((others : LogLines) → IsStoppedBefore new x (line ∷ others) now stop) → IsStoppedIn new h lines n now stop
+  stopped_in h x lines i line n now lt is counted over stop at = record {
+    front = take i lines;
+    rest = drop i lines;
+    split = sym (take-append-drop i lines);
+    last = x;
+    over = over;
+    counted = counted ∙ ap (λ (k : ℕ). n + k) (sym (long_front i lines (omega (arith, lt))));
+    stopped = subst (λ (rest : LogLines). IsStoppedBefore new x rest now stop) (sym (drop-cons lines i line lt ∙ ap (λ (l : List ℕ). l ∷ drop (suc i) lines) (sym is))) (at (drop (suc i) lines));
+  }
+
+  pub before_line : (x : History) (line : List ℕ) (others : LogLines) (n : ℕ) (stop : ShareStop) → IsStoppedAt new x line (Continues x line) n stop → IsStoppedBefore new x (line ∷ others) n stop
+  before_line x line others n (stops.Registry fault) it = it
+  before_line x line others n (stops.OtherRecord at) it = it
+  before_line x line others n stops.NoMemory it = it
+  before_line x line others n (stops.Log fault) it = it
+  before_line x line others n stops.Ahead it = it
+  before_line x line others n stops.Full it = absurd it
+
+-- ---- what endures
+
+pub endures_itself : (s : State) → Endures s s
+endures_itself s = record { clean = omega arith; shield = λ shielded. shielded; faults_grow = omega arith; limit = refl; closes = λ _ is_open. inl is_open }
+
+pub clean_first : (a b : State) → Endures a b → HasCleanDisk b → HasCleanDisk a
+clean_first a b it clean = let more = it.clean in omega (arith, more, clean)
+
+pub endures_then : (a b c : State) → Endures a b → Endures b c → Endures a c
+endures_then a b c first second = record {
+  clean = (let one = first.clean in let two = second.clean in omega (arith, one, two));
+  shield = λ shielded. second.shield (first.shield shielded);
+  faults_grow = (let one = first.faults_grow in let two = second.faults_grow in omega (arith, one, two));
+  limit = second.limit ∙ first.limit;
+  closes = λ clean is_open.
+      let one = first.faults_grow in
+      let two = second.faults_grow in
+      elim (first.closes (clean_first b c second clean) is_open) [
+        | inl still ↦ elim (second.closes clean still) [ inl there ↦ inl there | inr more ↦ inr (omega (arith, one, more)) ]
+        | inr more ↦ inr (omega (arith, two, more))
+      ];
+}
+
 -- ---- what a line says
 
 -- a line that leads on is read as its request
@@ -105,6 +168,16 @@ by_request h line accepted digest is none x it =
     let mine : it.0 ≡ accepted.request = sym (new_is_of h it.0 it.1.deed it.1.new) ∙ sym (ap (λ (a : Accepted). a.request) same) in
     none x (subst (λ (r : Request). ContinuesBy h r line x) mine it.1)
 
+-- what stopped a call is what stopped it for any line that leads on in more ways only if it does in these
+pub stopped_so : {S : Type 0} {g : Ghosts S} (new : Registry S g) (h : History) (line : List ℕ) (So Also : History → Type 0) (n : ℕ) → (((x : History) → ¬ So x) → (x : History) → ¬ Also x)
+    → (stop : ShareStop) → IsStoppedAt new h line So n stop → IsStoppedAt new h line Also n stop
+stopped_so new h line So Also n none (stops.Registry fault) it = it
+stopped_so new h line So Also n none (stops.OtherRecord at) it = (it.0, it.1, none it.2)
+stopped_so new h line So Also n none stops.NoMemory it = it
+stopped_so new h line So Also n none (stops.Log fault) it = it
+stopped_so new h line So Also n none stops.Ahead it = it
+stopped_so new h line So Also n none stops.Full it = it
+
 -- ---- a request that is acted on if it has the expected line
 
 module _ (h : History) (r : Request) (old new : Expected) (fresh : old.is_it ≡ None) where
@@ -117,10 +190,10 @@ module _ (h : History) (r : Request) (old new : Expected) (fresh : old.is_it ≡
 
   module _ {S : Type 0} {g : Ghosts S} (it : Registry S g) where
     -- the registry goes on with the line, if a fit was noted
-    pub goes_on : WasAsked (λ deed. IsExpected old new r (act_text deed.act)) → is_some new.is_it ≡ true → Represents it (after_one h r) → LeadsToLine it h old.line
+    pub goes_on : WasAsked (λ deed. IsExpected old new r (act_text deed.act)) → is_some new.is_it ≡ true → Represents it (after_one h r) → LeadsToLine it h old.line.now
     goes_on (inl same) noted now = absurd (let none : is_some new.is_it ≡ false = ap (λ (e : Expected). is_some e.is_it) same ∙ ap is_some fresh in cc)
     goes_on (inr told) noted now =
-        (with_deed h told.0, (r, continued h r told.0 old.line told.1 told.2.valid told.2.same), subst (Represents it) (after_new h r told.0 told.1) now)
+        (with_deed h told.0, (r, continued h r told.0 old.line.now told.1 told.2.valid told.2.same), subst (Represents it) (after_new h r told.0 told.1) now)
 
     -- without a note the request added no deed
     pub stays : (v : Verdict) → verdict h r ≡ v → ((deed : Deed) → verdict h r ≡ New deed → IsExpected old new r (act_text deed.act)) → is_some new.is_it ≡ false → Represents it (after_one h r) → Represents it h
@@ -129,30 +202,36 @@ module _ (h : History) (r : Request) (old new : Expected) (fresh : old.is_it ≡
     stays (New deed) is seen noted now = absurd (let some : is_some new.is_it ≡ true = ap (λ (e : Expected). is_some e.is_it) (seen deed is).told in cc)
 
   -- and the line does not lead on by it
-  pub leads_nowhere_else : ((deed : Deed) → verdict h r ≡ New deed → IsExpected old new r (act_text deed.act)) → is_some new.is_it ≡ false → (x : History) → ¬ ContinuesBy h r old.line x
+  pub leads_nowhere_else : ((deed : Deed) → verdict h r ≡ New deed → IsExpected old new r (act_text deed.act)) → is_some new.is_it ≡ false → (x : History) → ¬ ContinuesBy h r old.line.now x
   leads_nowhere_else seen noted x by = let some : is_some new.is_it ≡ true = ap (λ (e : Expected). is_some e.is_it) (seen by.deed by.new).told in cc
 
   -- a request that was shown and has another line does not lead on
-  pub has_other : WasAsked (λ deed. IsUnexpected old new r (act_text deed.act) Other) → (text : List ℕ) → IsUnexpected old new r text Other → (x : History) → ¬ ContinuesBy h r old.line x
+  pub has_other : WasAsked (λ deed. IsUnexpected old new r (act_text deed.act) Other) → (text : List ℕ) → IsUnexpected old new r text Other → (x : History) → ¬ ContinuesBy h r old.line.now x
   has_other (inl same) text missed x by = untold false same missed.1
   has_other (inr told) text missed x by =
       let both : New told.0 ≡ New by.deed = sym told.1 ∙ by.new in
       let same : told.0 ≡ by.deed = cc in
       told.2.0 (ap (λ (d : Deed). accepted_line (accepted_as r (act_text d.act))) same ∙ (ap accepted_line (sym (by_new h r by.deed by.new)) ∙ sym by.written))
 
+  -- a request that is not the expected one stops at its line
+  pub unexpected : {S : Type 0} {g : Ghosts S} (it : Registry S g) (n : ℕ) (why : Unexpected) → WasAsked (λ deed. IsUnexpected old new r (act_text deed.act) why) → (text : List ℕ) → IsUnexpected old new r text why → Represents it h
+      → IsStoppedAt it h old.line.now (ContinuesBy h r old.line.now) n (stop_for why n)
+  unexpected it n Other asked text missed now = (refl, now, has_other asked text missed)
+  unexpected it n NoMemory asked text missed now = now
+
   -- what a crash leaves is the history, or that to which the line leads
-  left_by : (x : History) (v : Verdict) → verdict h r ≡ v → x ≡ after_one h r → (text : List ℕ) → reply_to h r ≡ Done text → IsExpected old new r text → (x ≡ h) ⊎ Continues h old.line x
+  left_by : (x : History) (v : Verdict) → verdict h r ≡ v → x ≡ after_one h r → (text : List ℕ) → reply_to h r ≡ Done text → IsExpected old new r text → (x ≡ h) ⊎ Continues h old.line.now x
   left_by x (Kept kept) is at text replied seen = inl (at ∙ ap (after_verdict h) is)
   left_by x (Refused refusal) is at text replied seen = inl (at ∙ ap (after_verdict h) is)
   left_by x (New deed) is at text replied seen =
       let both : Done (act_text deed.act) ≡ Done text = sym (ap reply_of is) ∙ replied in
       let same : act_text deed.act ≡ text = cc in
-      let by = continued h r deed old.line is (subst (λ (t : List ℕ). IsAccepted (accepted_as r t)) (sym same) seen.valid) (ap (λ (t : List ℕ). accepted_line (accepted_as r t)) same ∙ seen.same) in
-      inr (r, subst (ContinuesBy h r old.line) (sym (at ∙ after_new h r deed is)) by)
+      let by = continued h r deed old.line.now is (subst (λ (t : List ℕ). IsAccepted (accepted_as r t)) (sym same) seen.valid) (ap (λ (t : List ℕ). accepted_line (accepted_as r t)) same ∙ seen.same) in
+      inr (r, subst (ContinuesBy h r old.line.now) (sym (at ∙ after_new h r deed is)) by)
 
-  left_either : (x : History) → (x ≡ h) ⊎ ((x ≡ after_one h r) × WasSeen IsExpected old new r (reply_to h r)) → (x ≡ h) ⊎ Continues h old.line x
+  left_either : (x : History) → (x ≡ h) ⊎ ((x ≡ after_one h r) × WasSeen IsExpected old new r (reply_to h r)) → (x ≡ h) ⊎ Continues h old.line.now x
   left_either x (inl same) = inl same
   left_either x (inr it) = left_by x (verdict h r) refl it.0 it.1.0 it.1.1 it.1.2
 
-  pub left : (s : State) → Leaves newest s (λ x. (x ≡ h) ⊎ ((x ≡ after_one h r) × WasSeen IsExpected old new r (reply_to h r))) → Leaves newest s (λ x. (x ≡ h) ⊎ Continues h old.line x)
+  pub left : (s : State) → Leaves newest s (λ x. (x ≡ h) ⊎ ((x ≡ after_one h r) × WasSeen IsExpected old new r (reply_to h r))) → Leaves newest s (λ x. (x ≡ h) ⊎ Continues h old.line.now x)
   left s leaves db may = let it = leaves db may in (it.0, left_either it.0 it.1, it.2)

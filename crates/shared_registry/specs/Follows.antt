@@ -66,6 +66,7 @@ module _ {S : Type 0} {g : Ghosts S} {L : Type 0} (l : LogGhosts L) (lines : L �
       pub now : History
       pub leads : LeadsTo h now
       pub follows : Follows it_new c_new now
+      pub grown : Grows (lines c.log) (lines c_new.log)
       pub whole : more ≡ false → WasWhole (lines c.log) (lines c_new.log) now
 
     -- The whole log was acted on.
@@ -77,8 +78,8 @@ module _ {S : Type 0} {g : Ghosts S} {L : Type 0} (l : LogGhosts L) (lines : L �
 
     -- A request got the reply of the history, or, without one, another line was under the next number.
     abbrev pub HasActed : Request → Option Reply → Type 0
-    HasActed r None = Follows it_new c_new h × (length (record_of h) < length (lines c_new.log))
-    HasActed r (Some reply) = (reply ≡ reply_to h r) × Follows it_new c_new (after_one h r)
+    HasActed r None = Follows it_new c_new h × Grows (lines c.log) (lines c_new.log) × (length (record_of h) < length (lines c_new.log))
+    HasActed r (Some reply) = Follows it_new c_new (after_one h r) × Grows (lines c.log) (lines c_new.log) × (reply ≡ reply_to h r)
 
     -- A request got the reply of a history that was the whole log at some instant of the call, and was acted on after it.
     pub record IsAnswered (r : Request) (reply : Reply) : Type 0 where

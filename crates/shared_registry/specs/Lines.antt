@@ -1,5 +1,5 @@
 -- The lines of a log with which the record of a history goes on.
-use Rattle.std.specs.Prelude.{◌≡◌, ◌≢◌, ◌⊎◌, ◌+◌, ℕ, true, false, List, [], ◌∷◌, ◌++◌, length, Option, Some, None, Unit, Result, Ok, Err}
+use Rattle.std.specs.Prelude.{◌≡◌, ◌≢◌, ◌⊎◌, ◌+◌, ℕ, true, false, List, [], ◌∷◌, ◌++◌, length, Option, Some, None, Result, Ok, Err}
 use Rattle.sqlite.specs.Store.{Ghosts}
 use Rattle.registry_rules.specs.Accepted.{accepted_by}
 use Rattle.registry_rules.specs.History.{History, with_deed}
@@ -44,13 +44,18 @@ pub record GoesOver (h : History) (lines : LogLines) (x : History) : Type 0 wher
 -- the line of a request is the expected one
 pub record IsExpected (old new : Expected) (r : Request) (text : List ℕ) : Type 0 where
   pub valid : IsAccepted (accepted_as r text)
-  pub same : accepted_line (accepted_as r text) ≡ old.line
+  pub same : accepted_line (accepted_as r text) ≡ old.line.now
   pub told : new ≡ record old { is_it = Some true }
 
 -- why it is not
 abbrev pub IsUnexpected : Expected → Expected → Request → List ℕ → Unexpected → Type 0
-IsUnexpected old new r text reasons.Other = (accepted_line (accepted_as r text) ≢ old.line) × (new ≡ record old { is_it = Some false })
+IsUnexpected old new r text reasons.Other = (accepted_line (accepted_as r text) ≢ old.line.now) × (new ≡ record old { is_it = Some false })
 IsUnexpected old new r text reasons.NoMemory = new ≡ old
+
+-- what that stops at line n
+abbrev pub stop_for : Unexpected → ℕ → ShareStop
+stop_for reasons.Other n = stops.OtherRecord n
+stop_for reasons.NoMemory n = stops.NoMemory
 
 -- the fault of a registry that stopped a call, if one did
 abbrev pub fault_in : {A : Type 0} → Result A ShareStop → Option Fault

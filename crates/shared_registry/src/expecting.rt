@@ -4,7 +4,7 @@ ghost use Rattle.std.specs.Prelude.{◌≡◌, None, IfErr, OnOk};
 ghost use Rattle.sqlite.specs.State.{HasCleanDisk};
 ghost use Rattle.registry_rules.specs.History.{History};
 ghost use Rattle.registry_store.specs.Promise.{Endures, NotesForeign, Represents, is_poisoned, state_of};
-ghost use Rattle.shared_registry.specs.Lines.{Continues, ContinuesBy, IsStoppedAt, LeadsToLine, fault_in};
+ghost use Rattle.shared_registry.specs.Lines.{Continues, ContinuesBy, IsStoppedAt, LeadsToLine, fault_in, stop_for};
 
 use crate::line::line_of;
 use crate::stop::ShareStop;
@@ -57,6 +57,16 @@ impl<'l> Witness for Expected<'l> {
     }
 }
 
+// Returns what stops at line `n`, whose request is not the expected one.
+fn stop_for(why: Unexpected, n: u32) -> ShareStop
+    ensures { result ≡ stop_for why n }
+{
+    match why {
+        Unexpected::Other => ShareStop::OtherRecord(n),
+        Unexpected::NoMemory => ShareStop::NoMemory,
+    }
+}
+
 /// Acts on a request if it is new and has this line, which is line `n` of the log.
 fn act_if_expected<S: Alter>(
     alloc: Global,
@@ -84,8 +94,7 @@ fn act_if_expected<S: Alter>(
             }
         }
         Err(ActStop::Fault(fault)) => Err(ShareStop::Registry(fault)),
-        Err(ActStop::Unwitnessed(Unexpected::Other)) => Err(ShareStop::OtherRecord(n)),
-        Err(ActStop::Unwitnessed(Unexpected::NoMemory)) => Err(ShareStop::NoMemory),
+        Err(ActStop::Unwitnessed(why)) => Err(stop_for(why, n)),
     }
 }
 

@@ -1,6 +1,6 @@
 //! Acts on the lines of the log that the registry has not acted on.
 
-ghost use Rattle.std.specs.Prelude.{◌≡◌, ◌≤◌, ◌<◌, ◌+◌, false, true, length, Err, IfErr, IfOk, OnErr, OnOk};
+ghost use Rattle.std.specs.Prelude.{◌≡◌, ◌≤◌, ◌<◌, ◌+◌, ◌^◌, false, true, length, Err, IfErr, IfOk, OnErr, OnOk};
 ghost use Rattle.sqlite.specs.State.{HasCleanDisk};
 ghost use Rattle.registry_rules.specs.History.{History};
 ghost use Rattle.registry_store.specs.Promise.{Endures, NotesForeign, Represents, is_poisoned, state_of};
@@ -25,11 +25,15 @@ fn act_on_lines<S: Alter>(
     lines: &[Line],
 ) -> Result<(), ShareStop>
     ensures goes_on { (h : History) → Represents registry.old h → HasCleanDisk (state_of registry.new)
-        → OnOk result (LeadsToLines registry.new h lines.now × (next.new ≡ next.old + length lines.now)) }
+        → OnOk result (LeadsToLines registry.new h lines.now) }
+    ensures passes { OnOk result (next.new ≡ next.old + length lines.now) }
+    ensures small { next.new < 2 ^ 32 }
     ensures stopped { (h : History) → Represents registry.old h → HasCleanDisk (state_of registry.new) → IfErr result (IsStoppedIn registry.new h lines.now next.old next.new) }
     ensures notes { NotesForeign registry.old registry.new (fault_in result) }
     ensures endures { Endures (state_of registry.old) (state_of registry.new) }
 {
+    // (a number that is read is less than 2^32)
+    let _first = *next;
     for line in lines {
         let Some(after) = next.checked_add(1) else {
             return Err(ShareStop::Full);
@@ -54,6 +58,7 @@ fn read_and_follow<S: Alter, L: Log>(
     ensures notes { NotesForeign registry.old registry.new (fault_in result) }
     ensures endures { Endures (state_of registry.old) (state_of registry.new) }
     ensures passes { IfOk result (λ more. (cursor.old.next ≤ cursor.new.next) × (more ≡ true → cursor.old.next < cursor.new.next)) }
+    ensures small { OnOk result (cursor.new.next < 2 ^ 32) }
 {
     let page = match cursor.log.page(cursor.alloc, cursor.next) {
         Ok(page) => page,

@@ -1,11 +1,11 @@
 //! The lines of the record of a registry.
 
-ghost use Rattle.std.specs.Prelude.{◌≡◌, ◌++◌, ℕ, [], length, map, take, IfErr, IfOk};
+ghost use Rattle.std.specs.Prelude.{◌≡◌, ◌∷◌, [], map, IfOk};
 ghost use Rattle.sqlite.specs.State.{HasCleanDisk};
 ghost use Rattle.registry_rules.specs.History.{History};
 ghost use Rattle.registry_laws.specs.Machines.{HasValidFields};
 ghost use Rattle.registry_laws.specs.Records.{record_of};
-ghost use Rattle.registry_store.specs.Promise.{Endures, NotesForeign, Represents, state_of};
+ghost use Rattle.registry_store.specs.Promise.{NotesForeign, Represents, state_of};
 ghost use Rattle.registry_store.specs.Queries.{IsUntouched};
 ghost use Rattle.registry_wire.specs.Record.{accepted_line, founding_line};
 ghost use Rattle.shared_registry.specs.Lines.{fault_in};
