@@ -19,10 +19,14 @@ abbrev pub with_token : List ℕ → Option (List ℕ) → List ℕ
 with_token text None = text
 with_token text (Some token) = with_field text (codes "authorization") token
 
--- the head of a request to this host, with so many bytes of JSON
+-- the first lines of a request to this host, with so many bytes of JSON
+unfoldable pub first_lines : Endpoint → List ℕ → ℕ → List ℕ
+first_lines endpoint host count =
+    with_field (with_field (with_field (request_line endpoint) (codes "host") host) (codes "content-type") (codes "application/json")) (codes "content-length") (decimal count)
+
+-- the head of such a request, with the token, if there is one
 unfoldable pub request_head : Endpoint → List ℕ → Option (List ℕ) → ℕ → List ℕ
-request_head endpoint host token count =
-    with_token (with_field (with_field (with_field (request_line endpoint) (codes "host") host) (codes "content-type") (codes "application/json")) (codes "content-length") (decimal count)) token ++ crlf
+request_head endpoint host token count = with_token (first_lines endpoint host count) token ++ crlf
 
 -- the request
 unfoldable pub request_text : Endpoint → List ℕ → Option (List ℕ) → List ℕ → List ℕ

@@ -1,7 +1,7 @@
 //! Writes a request in HTTP/1.1.
 
 ghost use Rattle.std.specs.Prelude.{◌≡◌, ◌++◌, length, decimal, IfOk, OnOk, option_copied, string_bytes};
-ghost use Rattle.etcd_client.specs.Messages.{crlf, with_field, with_token, request_line, request_head, request_text};
+ghost use Rattle.etcd_client.specs.Messages.{crlf, with_field, with_token, request_line, first_lines, request_head, request_text};
 
 use crate::host::Host;
 use etcd_messages::{Endpoint, Token};
@@ -44,6 +44,23 @@ fn digits_of(alloc: Global, number: usize) -> Result<String, NoMemory>
     Ok(number.to_string(alloc)?)
 }
 
+#[tactic(auto, unfolding(crate::specs::Messages::first_lines))]
+fn first_lines(
+    alloc: Global,
+    endpoint: Endpoint,
+    host: &Host,
+    count: usize,
+) -> Result<String, NoMemory>
+    ensures { IfOk result (λ s. string_bytes s ≡ first_lines endpoint host.now count) }
+{
+    let digits = digits_of(alloc, count)?;
+    let mut text = request_line(alloc, endpoint)?;
+    push_field(&mut text, "host", host.as_str())?;
+    push_field(&mut text, "content-type", "application/json")?;
+    push_field(&mut text, "content-length", digits.as_str())?;
+    Ok(text)
+}
+
 #[tactic(auto, unfolding(crate::specs::Messages::request_head))]
 fn request_head(
     alloc: Global,
@@ -54,11 +71,7 @@ fn request_head(
 ) -> Result<String, NoMemory>
     ensures { IfOk result (λ s. string_bytes s ≡ request_head endpoint host.now (option_copied token.entry) count) }
 {
-    let digits = digits_of(alloc, count)?;
-    let mut text = request_line(alloc, endpoint)?;
-    push_field(&mut text, "host", host.as_str())?;
-    push_field(&mut text, "content-type", "application/json")?;
-    push_field(&mut text, "content-length", digits.as_str())?;
+    let mut text = first_lines(alloc, endpoint, host, count)?;
     push_token(&mut text, token)?;
     text.push_str("\r\n")?;
     Ok(text)

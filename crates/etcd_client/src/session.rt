@@ -21,8 +21,8 @@ pub(crate) struct Session<C: Connection> {
     pub token: Option<Token>,
 }
 
-// By hand, so that a function that drops a log calls one function for its session: the borrow checker does not cover what a
-// derive writes there.
+// By hand: the borrow checker does not cover a function that drops a log over a connection that borrows, if a derive wrote
+// this drop.
 impl<C: Connection + Drop> Drop for Session<C> {
     fn drop(self) {
         let Session {
