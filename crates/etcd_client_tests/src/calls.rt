@@ -1,7 +1,7 @@
 //! Calls of a log over a connection in memory, and what they answer. A row has the name of the log, with an at sign and a
-//! password if a user of this name logs in, the calls, each of which ends in a semicolon, and the steps of the connection. A
-//! call is `h` for a read of the head, `p` and a number for a read of lines, and `a`, a number, an equals sign and a line
-//! for an append.
+//! password if a user of this name logs in, the calls, with a semicolon between two, and the steps of the connection. A call
+//! is `h` for a read of the head, `p` and a number for a read of lines, and `a`, a number, an equals sign and a line for an
+//! append.
 
 use crate::script::Script;
 use etcd_client::{CallFault, EtcdLog, Host, User};

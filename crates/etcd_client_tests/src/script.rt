@@ -21,7 +21,7 @@ pub(crate) struct Script<'d> {
 impl<'d> Script<'d> {
     /// Makes one of the steps that a text names, between bars: `!open`, `!write` and `!read` are such a call that fails,
     /// `stale` is a look at a connection that cannot be used, and any other text is what a read gives: the end, if it
-    /// is empty. What is done is put behind the bytes.
+    /// is empty. Bytes for which the read has no room are lost. What is done is put behind the bytes.
     pub(crate) fn new(
         alloc: Global,
         text: &str,
