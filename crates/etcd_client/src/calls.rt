@@ -1,6 +1,6 @@
 //! The calls of a log: a message is sent, and its answer read.
 
-ghost use Rattle.std.specs.Prelude.{◌≡◌, IfOk, IfErr};
+ghost use Rattle.std.specs.Prelude.{IfOk, IfErr};
 ghost use Rattle.etcd_messages.specs.declared.endpoint.Endpoint.TheVariants as endpoints;
 ghost use Rattle.etcd_messages.specs.Answers.{append_reading, page_reading, head_reading};
 ghost use Rattle.etcd_client.specs.Logs.{append_body, page_body, head_body, Gets, GetsNone};

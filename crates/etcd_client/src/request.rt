@@ -1,7 +1,7 @@
 //! Writes a request in HTTP/1.1.
 
-ghost use Rattle.std.specs.Prelude.{◌≡◌, ◌++◌, length, decimal, IfOk, OnOk, option_copied, string_bytes};
-ghost use Rattle.etcd_client.specs.Messages.{crlf, with_field, with_token, request_line, first_lines, request_head, request_text};
+ghost use Rattle.std.specs.Prelude.{◌≡◌, decimal, IfOk, OnOk, option_copied, string_bytes};
+ghost use Rattle.etcd_client.specs.Messages.{with_field, with_token, request_line, first_lines, request_head, request_text};
 
 use crate::host::Host;
 use etcd_messages::{Endpoint, Token};
