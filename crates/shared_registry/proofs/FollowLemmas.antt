@@ -63,6 +63,10 @@ pub some_lines : (xs : LogLines) → nat_eq (length xs) 0 ≡ false → 0 < leng
 some_lines [] is = absurd (eqb-false 0 0 is refl)
 some_lines (x ∷ xs) is = omega arith
 
+pub not_none : (xs : LogLines) → nat_eq (length xs) 0 ≡ false → xs ≢ []
+not_none [] is none = eqb-false 0 0 is refl
+not_none (x ∷ xs) is none = cc
+
 -- what lies behind a beginning
 behind : (log front more : LogLines) (n : ℕ) → log ≡ front ++ more → n ≡ length front → drop n log ≡ more
 behind log front more n is at = subst (λ (k : ℕ). drop k log ≡ more) (sym at) (ap (drop (length front)) is ∙ drop-append_seam front more)
@@ -88,7 +92,7 @@ earlier_start first old new P grown it = record { instant = it.instant; before =
 pub later_end : (old mid new : LogLines) (P : LogLines → Type 0) → AtSomeInstant old mid P → Grows mid new → AtSomeInstant old new P
 later_end old mid new P it grown = record { instant = it.instant; before = it.before; after = grows_on it.instant mid new it.after grown; held = it.held }
 
-at_instant_grows : (old new : LogLines) (P : LogLines → Type 0) → AtSomeInstant old new P → Grows old new
+pub at_instant_grows : (old new : LogLines) (P : LogLines → Type 0) → AtSomeInstant old new P → Grows old new
 at_instant_grows old new P it = grows_on old it.instant new it.before it.after
 
 -- ---- a history of a machine that shares the log
@@ -162,7 +166,7 @@ module _ {L : Type 0} (l : LogGhosts L) (lines : L → LogLines) where
   append_grows n line answers.Behind old new it = at_instant_grows old new (λ log. length log < n) it
 
   module _ (kept : IsKept l lines) (c c_new : Cursor L) where
-    line_grows : (line : List ℕ) → HasLine l c c_new line → Grows (lines c.log) (lines c_new.log)
+    pub line_grows : (line : List ℕ) → HasLine l c c_new line → Grows (lines c.log) (lines c_new.log)
     line_grows line it = elim it.told [
       | inl appended ↦ append_grows c.next line answers.Appended _ _ (kept.appends c.log c_new.log c.next line answers.Appended appended)
       | inr taken ↦ append_grows c.next line (answers.Taken line) _ _ (kept.appends c.log c_new.log c.next line (answers.Taken line) taken)

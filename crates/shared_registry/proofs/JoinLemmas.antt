@@ -3,7 +3,9 @@ use Rattle.std.proofs.Common.{◌≡◌, ◌≢◌, ◌≤◌, ◌<◌, ◌⊎�
 use Rattle.std.specs.Prelude.{All, ⊤}
 use Rattle.std.proofs.lemmas.List.{append-nil, length-append, length-drop, take-append-drop, take-append-le}
 use Rattle.std.proofs.lemmas.List.Elements.{All-cons, All-head, All-nil, All-tail}
-use Rattle.std.proofs.Math.Seq.{take-add}
+use Rattle.std.proofs.Math.ListN.{get_or}
+use Rattle.std.proofs.Math.Seq.{take-add, take-suc}
+use Rattle.std.proofs.lemmas.Option.{get_or_from_slice_get, slice_get-get_or, slice_get_within}
 use Rattle.sqlite.specs.Store.{Ghosts}
 use Rattle.sqlite.specs.State.{HasCleanDisk}
 use Rattle.registry_rules.specs.Accepted.{AreValid, IsValid, accepted_by, accepted_of}
@@ -27,10 +29,10 @@ use Rattle.shared_registry.specs.declared.cursor.Cursor.{Cursor}
 use Rattle.shared_registry.specs.declared.stop.ShareStop.{ShareStop}
 use Rattle.shared_registry.specs.declared.stop.ShareStop.TheVariants as stops
 use Rattle.shared_registry.specs.Cursors.{HasLine, HasNoLine}
-use Rattle.shared_registry.specs.Follows.{HasFailed}
-use Rattle.shared_registry.specs.Records.{HasPassed, IsApart, IsNextPart, IsOtherPage, IsUnshared, Matches}
+use Rattle.shared_registry.specs.Follows.{Follows, HasFailed}
+use Rattle.shared_registry.specs.Records.{HasPassed, IsApart, IsNextPart, IsOfReading, IsOtherPage, IsUnshared, Matches}
 use Rattle.shared_registry.proofs.FollowLemmas.{earlier_start, grows_none, grows_on, line_taken, no_line_grows}
-use Rattle.shared_registry.proofs.LineLemmas.{long_front}
+use Rattle.shared_registry.proofs.LineLemmas.{long_front, take_next}
 
 -- ---- the fields of a history are valid
 
@@ -112,6 +114,16 @@ dropped_front [] ys zero is = refl
 dropped_front [] ys (suc n) is = absurd (omega (arith, is))
 dropped_front (x ∷ xs) ys zero is = absurd (omega (arith, is))
 dropped_front (x ∷ xs) ys (suc n) is = dropped_front xs ys n (omega (arith, is))
+
+-- ---- lines that are the same in two lists
+
+pub same_so_far : (ours theirs : LogLines) (i : ℕ) (line : List ℕ) → i < length ours → line ≡ get_or ours i line → slice_get theirs i ≡ Some line → take i ours ≡ take i theirs → take (i + 1) ours ≡ take (i + 1) theirs
+same_so_far ours theirs i line lt is at same =
+    let there : line ≡ get_or theirs i line = sym (get_or_from_slice_get theirs i line line at) in
+    take_next ours i line lt is ∙ ap (λ (t : LogLines). t ++ line ∷ []) same ∙ sym (take_next theirs i line (slice_get_within theirs i line at) there)
+
+pub ends_apart : (ours theirs : LogLines) (i : ℕ) (line : List ℕ) → i < length ours → line ≡ get_or ours i line → slice_get theirs i ≢ Some line → slice_get ours i ≢ slice_get theirs i
+ends_apart ours theirs i line lt is other same = other (sym same ∙ slice_get-get_or ours i line lt ∙ ap Some (sym is))
 
 -- ---- a cursor before the rest of a record
 
@@ -216,6 +228,51 @@ module _ {L : Type 0} (l : LogGhosts L) (lines : L → LogLines) (h : History) w
   page_other c now part page passed is some at reads stops.Full it = let long = long_record c part is.rest passed is.next in omega (arith, it, long)
   page_other c now part page passed is some at reads stops.NoMemory it = absurd it
 
+  -- why lines of the record were not read, before a call of the log
+  pub unread : (c : L) (stop : ShareStop) → IsOfReading stop → IsUnshared l lines h c c stop
+  unread c (stops.Registry fault) it = it
+  unread c stops.NoMemory it = grows_none (lines c)
+  unread c (stops.Log fault) it = absurd it
+  unread c (stops.OtherRecord n) it = absurd it
+  unread c stops.Ahead it = absurd it
+  unread c stops.Full it = absurd it
+
+  -- ---- lines that are appended
+
+  line_of_record : (start : Cursor L) (these rest : LogLines) (i : ℕ) (line : List ℕ) → drop start.next (record_of h) ≡ these ++ rest → i < length these → line ≡ get_or these i line → slice_get (record_of h) (start.next + i) ≡ Some line
+  line_of_record start these rest i line is lt here =
+      at_dropped start.next (record_of h) i ∙ ap (λ (d : LogLines). slice_get d i) is ∙ in_beginning these rest i lt ∙ slice_get-get_or these i line lt ∙ ap Some (sym here)
+
+  -- a line of the record that the log took is passed
+  pub line_passed : IsKept l lines → (start c c_new : Cursor L) (these rest : LogLines) (i : ℕ) (line : List ℕ) → drop start.next (record_of h) ≡ these ++ rest → c.next ≡ start.next + i → i < length these → line ≡ get_or these i line
+      → HasPassed lines c h → HasLine l c c_new line → HasPassed lines c_new h
+  line_passed kept start c c_new these rest i line is counted lt here passed has =
+      let at : slice_get (record_of h) c.next ≡ Some line = ap (slice_get (record_of h)) counted ∙ line_of_record start these rest i line is lt here in
+      let within = slice_get_within (record_of h) c.next line at in
+      let front = take c.next (record_of h) in
+      let next : c_new.next ≡ suc c.next = ap (λ (d : Cursor L). d.next) has.passed in
+      let more : take (suc c.next) (record_of h) ≡ front ++ line ∷ [] =
+      take-suc (record_of h) c.next line within ∙ ap (λ (x : List ℕ). front ++ x ∷ []) (get_or_from_slice_get (record_of h) c.next line line at) in
+      record {
+        within = omega (arith, next, within);
+        begins = subst (λ (n : ℕ). Grows (take n (record_of h)) (lines c_new.log)) (sym next)
+            (subst (λ (f : LogLines). Grows f (lines c_new.log)) (sym more) (line_taken l lines kept c c_new front passed.begins (sym (long_front c.next (record_of h) passed.within)) line has));
+      }
+
+  -- another line was under the number
+  pub taken_apart : IsKept l lines → (start c c_new : Cursor L) (these rest : LogLines) (i : ℕ) (line : List ℕ) → drop start.next (record_of h) ≡ these ++ rest → c.next ≡ start.next + i → i < length these → line ≡ get_or these i line
+      → Grows (lines start.log) (lines c.log) → HasNoLine l c c_new line faults.Taken → IsApart (lines start.log) (lines c_new.log) h c_new.next
+  taken_apart kept start c c_new these rest i line is counted lt here grown it =
+      let means = kept.appends c.log c_new.log c.next line (answers.Taken it.0.0) it.0.2 in
+      let same : c_new.next ≡ c.next = ap (λ (d : Cursor L). d.next) it.1 in
+      let at : slice_get (record_of h) c_new.next ≡ Some line = ap (slice_get (record_of h)) (same ∙ counted) ∙ line_of_record start these rest i line is lt here in
+      let there = earlier_start (lines start.log) (lines c.log) (lines c_new.log) _ grown means in
+      record {
+        line = it.0.0;
+        there = record { instant = there.instant; before = there.before; after = there.after; held = ap (slice_get there.instant) same ∙ there.held };
+        other = λ mine. it.0.1 (let both : Some line ≡ Some it.0.0 = sym at ∙ mine in let equal : line ≡ it.0.0 = cc in sym equal);
+      }
+
   -- ---- calls one after another
 
   pub unshared_since : (start c now : L) → Grows (lines start) (lines c) → (stop : ShareStop) → IsUnshared l lines h c now stop → IsUnshared l lines h start now stop
@@ -227,6 +284,11 @@ module _ {L : Type 0} (l : LogGhosts L) (lines : L → LogLines) (h : History) w
   unshared_since start c now grown stops.NoMemory it = grows_on (lines start) (lines c) (lines now) grown it
 
 module _ {S : Type 0} {g : Ghosts S} where
+  -- the whole record is passed, so the registry follows the log
+  pub joined : {L : Type 0} (l : LogGhosts L) (lines : L → LogLines) (it : Registry S g) (c : Cursor L) (h : History) → Represents it h → HasValidFields h → HasPassed lines c h → c.next ≡ length (record_of h) → Follows l lines it c h
+  joined l lines it c h stands valid passed all =
+      record { represents = stands; of_machine = record { legal = stands.legal_with.legal; valid = valid; begins = all_passed l lines h c passed all }; next = all }
+
   pub untouched_then : (it mid new : Registry S g) → IsUntouched it mid → IsUntouched mid new → IsUntouched it new
   untouched_then it mid new a b = record {
     stays = λ h stands. b.stays h (a.stays h stands);

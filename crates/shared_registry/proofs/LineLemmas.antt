@@ -96,12 +96,15 @@ long_front zero xs le = refl
 long_front (suc n) [] le = absurd (omega (arith, le))
 long_front (suc n) (x ∷ xs) le = ap suc (long_front n xs (omega (arith, le)))
 
--- with the next line of a list
+-- the first lines of a list, with the next one
+pub take_next : (lines : LogLines) (i : ℕ) (line : List ℕ) → i < length lines → line ≡ get_or lines i line → take (i + 1) lines ≡ take i lines ++ line ∷ []
+take_next lines i line lt is =
+    let next : i + 1 ≡ suc i = omega arith in
+    ap (λ (k : ℕ). take k lines) next ∙ take-suc lines i line lt ∙ ap (λ (l : List ℕ). take i lines ++ l ∷ []) (sym is)
+
 pub one_more : (h x y : History) (lines : LogLines) (i : ℕ) (line : List ℕ) → i < length lines → line ≡ get_or lines i line → GoesOver h (take i lines) x → Continues x line y → GoesOver h (take (i + 1) lines) y
 one_more h x y lines i line lt is over by =
-    let next : i + 1 ≡ suc i = omega arith in
-    let more : take (i + 1) lines ≡ take i lines ++ line ∷ [] = ap (λ (k : ℕ). take k lines) next ∙ take-suc lines i line lt ∙ ap (λ (l : List ℕ). take i lines ++ l ∷ []) (sym is) in
-    subst (λ (l : LogLines). GoesOver h l y) (sym more) (over_both h x y (take i lines) (line ∷ []) over (over_one x by.0 line y by.1))
+    subst (λ (l : LogLines). GoesOver h l y) (sym (take_next lines i line lt is)) (over_both h x y (take i lines) (line ∷ []) over (over_one x by.0 line y by.1))
 
 module _ {S : Type 0} {g : Ghosts S} (new : Registry S g) where
   -- what stopped it at the line behind the first ones of a list

@@ -57,15 +57,19 @@ abbrev pub stop_for : Unexpected → ℕ → ShareStop
 stop_for reasons.Other n = stops.OtherRecord n
 stop_for reasons.NoMemory n = stops.NoMemory
 
+-- the fault of a registry that this is, if it is one
+abbrev pub fault_of : ShareStop → Option Fault
+fault_of (stops.Registry fault) = Some fault
+fault_of (stops.Log fault) = None
+fault_of (stops.OtherRecord n) = None
+fault_of stops.Ahead = None
+fault_of stops.Full = None
+fault_of stops.NoMemory = None
+
 -- the fault of a registry that stopped a call, if one did
 abbrev pub fault_in : {A : Type 0} → Result A ShareStop → Option Fault
 fault_in (Ok it) = None
-fault_in (Err (stops.Registry fault)) = Some fault
-fault_in (Err (stops.Log fault)) = None
-fault_in (Err (stops.OtherRecord n)) = None
-fault_in (Err stops.Ahead) = None
-fault_in (Err stops.Full) = None
-fault_in (Err stops.NoMemory) = None
+fault_in (Err stop) = fault_of stop
 
 module _ {S : Type 0} {g : Ghosts S} (new : Registry S g) where
   -- the registry represents the history to which the line leads

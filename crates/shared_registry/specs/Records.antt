@@ -1,5 +1,5 @@
 -- The record of a registry, compared with a log or put into it.
-use Rattle.std.specs.Prelude.{◌≡◌, ◌≢◌, ◌⊎◌, ◌≤◌, ◌<◌, ◌+◌, ℕ, Bool, true, false, List, [], ◌++◌, length, take, drop, slice_get, Some, Result, Ok, Err}
+use Rattle.std.specs.Prelude.{◌≡◌, ◌≢◌, ◌⊎◌, ◌≤◌, ◌<◌, ◌+◌, ⊤, ℕ, Bool, true, false, List, [], ◌++◌, length, take, drop, slice_get, Some, Result, Ok, Err}
 use Rattle.sqlite.specs.Store.{Ghosts}
 use Rattle.registry_rules.specs.History.{History}
 use Rattle.registry_laws.specs.Machines.{BeginsWith}
@@ -20,12 +20,21 @@ pub record IsNextPart (record_lines : LogLines) (n : ℕ) (part : LogLines) : Ty
   pub next : drop n record_lines ≡ part ++ rest
   pub none : part ≡ [] → rest ≡ []
 
--- The first lines of both lists are the same, this many, and then the next ones differ or there is none.
+-- why lines of the record were not read
+abbrev pub IsOfReading : ShareStop → Type 0
+IsOfReading (stops.Registry fault) = (fault ≡ faults.Store) ⊎ (fault ≡ faults.NoMemory)
+IsOfReading stops.NoMemory = ⊤
+IsOfReading (stops.Log fault) = ⊥
+IsOfReading (stops.OtherRecord n) = ⊥
+IsOfReading stops.Ahead = ⊥
+IsOfReading stops.Full = ⊥
+
+-- the first lines of both lists are the same, this many, and these are all of ours, or the next one is another or is not there
 pub record Matches (ours theirs : LogLines) (count : ℕ) : Type 0 where
   pub within : count ≤ length ours
   pub there : count ≤ length theirs
   pub same : take count ours ≡ take count theirs
-  pub ends : (length ours ≡ count) ⊎ ((length theirs ≡ count) ⊎ (slice_get ours count ≢ slice_get theirs count))
+  pub ends : (length ours ≡ count) ⊎ (slice_get ours count ≢ slice_get theirs count)
 
 -- the log begins with the first lines of the record, as many as the cursor has passed
 pub record HasPassed {L : Type 0} (lines : L → LogLines) (c : Cursor L) (h : History) : Type 0 where

@@ -45,7 +45,7 @@ impl From<NoMemory> for AppendFault {
 }
 
 impl<L: Log> Cursor<L> {
-    ghost use Rattle.std.specs.Prelude.{◌≡◌, OnOk, IfErr};
+    ghost use Rattle.std.specs.Prelude.{◌≡◌, ◌<◌, ◌^◌, OnOk, IfErr};
     ghost use Rattle.shared_registry.specs.Cursors.{HasLine, HasNoLine, log_of};
 
     /// Returns the log.
@@ -71,6 +71,7 @@ impl<L: Log> Cursor<L> {
     pub(crate) fn append(&mut self, line: &[u8]) -> Result<(), AppendFault>
         ensures ok { OnOk result (HasLine L.Log self.old self.new line.now) }
         ensures err { IfErr result (HasNoLine L.Log self.old self.new line.now) }
+        ensures small { OnOk result (self.new.next < 2 ^ 32) }
     {
         let Some(after) = self.next.checked_add(1) else {
             return Err(AppendFault::Full);

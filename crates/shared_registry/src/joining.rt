@@ -1,6 +1,6 @@
 //! Takes up a log: compares the record of a registry with the lines of the log, or appends it.
 
-ghost use Rattle.std.specs.Prelude.{◌≡◌, ◌≢◌, ◌⊎◌, ◌<◌, ◌+◌, ◌++◌, ℕ, [], false, true, Err, IfErr, IfNone, IfOk, IfSome, OnOk, drop, length};
+ghost use Rattle.std.specs.Prelude.{◌≡◌, ◌≢◌, ◌⊎◌, ◌≤◌, ◌<◌, ◌+◌, ◌^◌, ◌++◌, ℕ, [], false, true, None, Err, IfErr, IfNone, IfOk, IfSome, OnOk, Some, drop, length, slice_get};
 ghost use Rattle.sqlite.specs.State.{HasCleanDisk};
 ghost use Rattle.registry_rules.specs.History.{History};
 ghost use Rattle.registry_laws.specs.Machines.{HasValidFields};
@@ -8,7 +8,7 @@ ghost use Rattle.registry_laws.specs.Records.{record_of};
 ghost use Rattle.registry_store.specs.Promise.{NotesForeign, Represents, state_of};
 ghost use Rattle.registry_store.specs.Queries.{IsUntouched};
 ghost use Rattle.shared_log.specs.Calls.{Grows, IsKept, LogLines};
-ghost use Rattle.shared_registry.specs.Lines.{fault_in};
+ghost use Rattle.shared_registry.specs.Lines.{fault_in, fault_of};
 ghost use Rattle.shared_registry.specs.Cursors.{most_lines};
 ghost use Rattle.shared_registry.specs.Follows.{Follows};
 ghost use Rattle.shared_registry.specs.Records.{HasPassed, IsOtherPage, IsUnshared, Matches, stop_in};
@@ -21,19 +21,41 @@ use shared_log::{Line, Lines, Log, LogFault};
 use sqlite::Alter;
 use std::alloc::Global;
 
+/// Returns whether two lines are the same.
+fn are_same(a: &Line, b: &Line) -> bool
+    ensures same { result ≡ true → a.now ≡ b.now }
+    ensures other { result ≡ false → a.now ≢ b.now }
+{
+    a.as_bytes() == b.as_bytes()
+}
+
+/// Returns the line with this number, if there is one.
+fn line_at(lines: &[Line], n: usize) -> Option<&Line>
+    ensures there { IfSome result (λ line. slice_get lines.now n ≡ Some line.now) }
+    ensures past { IfNone result (length lines.now ≤ n) }
+{
+    lines.get(n)
+}
+
+/// Returns whether this line has this number in the lines.
+fn has_line(lines: &[Line], n: usize, line: &Line) -> bool
+    ensures has { result ≡ true → slice_get lines.now n ≡ Some line.now }
+    ensures hasnt { result ≡ false → slice_get lines.now n ≢ Some line.now }
+{
+    match line_at(lines, n) {
+        Some(other) => are_same(other, line),
+        None => false,
+    }
+}
+
 /// Returns how many of the first lines are the same.
 fn same_lines(ours: &[Line], theirs: &[Line]) -> usize
     ensures { Matches ours.now theirs.now result }
 {
     let mut count = 0;
     for line in ours {
-        match theirs.get(count) {
-            Some(other) => {
-                if other.as_bytes() != line.as_bytes() {
-                    return count;
-                }
-            }
-            None => return count,
+        if !has_line(theirs, count, line) {
+            return count;
         }
         count += 1;
     }
@@ -83,8 +105,12 @@ fn compare_part<S: Alter, L: Log>(
     ensures untouched { IsUntouched registry.old registry.new }
     ensures notes { NotesForeign registry.old registry.new (fault_in result) }
     ensures passes { IfOk result (λ more. more ≡ true → cursor.old.next < cursor.new.next) }
+    ensures small { OnOk result (cursor.new.next < 2 ^ 32) }
 {
-    let ours = record_part(cursor.alloc, registry, cursor.next)?;
+    let ours = match record_part(cursor.alloc, registry, cursor.next) {
+        Ok(ours) => ours,
+        Err(stop) => return Err(stop),
+    };
     if ours.is_empty() {
         return Ok(false);
     }
@@ -92,8 +118,13 @@ fn compare_part<S: Alter, L: Log>(
         Ok(page) => page,
         Err(fault) => return Err(ShareStop::Log(fault)),
     };
-    cursor.next = compare_page(&ours, &page.lines, page.more, cursor.next)?;
-    Ok(true)
+    match compare_page(&ours, &page.lines, page.more, cursor.next) {
+        Ok(after) => {
+            cursor.next = after;
+            Ok(true)
+        }
+        Err(stop) => Err(stop),
+    }
 }
 
 /// Compares the record with the log, from the place of the cursor on.
@@ -123,9 +154,13 @@ fn append_lines<L: Log>(cursor: &mut Cursor<L>, lines: &[Line]) -> Result<(), Sh
         → OnOk result (HasPassed log cursor.new h × Grows (log cursor.old.log) (log cursor.new.log)) }
     ensures err { (log : L → LogLines) → IsKept L.Log log → (h : History) → (rest : LogLines) → drop cursor.old.next (record_of h) ≡ lines.now ++ rest → HasPassed log cursor.old h
         → IfErr result (IsUnshared L.Log log h cursor.old.log cursor.new.log) }
+    ensures kind { IfErr result (λ stop. fault_of stop ≡ None) }
     ensures never_ahead { result ≢ Err ShareStop.Ahead }
     ensures passes { OnOk result (cursor.new.next ≡ cursor.old.next + length lines.now) }
+    ensures small { OnOk result (cursor.new.next < 2 ^ 32) }
 {
+    // (a number that is read is less than 2^32)
+    let _first = cursor.next;
     for line in lines {
         match cursor.append(line.as_bytes()) {
             Ok(()) => {}
@@ -152,8 +187,12 @@ fn append_part<S: Alter, L: Log>(
     ensures notes { NotesForeign registry.old registry.new (fault_in result) }
     ensures never_ahead { result ≢ Err ShareStop.Ahead }
     ensures passes { IfOk result (λ more. more ≡ true → cursor.old.next < cursor.new.next) }
+    ensures small { OnOk result (cursor.new.next < 2 ^ 32) }
 {
-    let ours = record_part(cursor.alloc, registry, cursor.next)?;
+    let ours = match record_part(cursor.alloc, registry, cursor.next) {
+        Ok(ours) => ours,
+        Err(stop) => return Err(stop),
+    };
     if ours.is_empty() {
         return Ok(false);
     }

@@ -1,6 +1,6 @@
 //! The lines of the record of a registry.
 
-ghost use Rattle.std.specs.Prelude.{◌≡◌, ◌∷◌, [], map, IfOk};
+ghost use Rattle.std.specs.Prelude.{◌≡◌, ◌≢◌, ◌∷◌, [], map, Err, IfErr, IfOk};
 ghost use Rattle.sqlite.specs.State.{HasCleanDisk};
 ghost use Rattle.registry_rules.specs.History.{History};
 ghost use Rattle.registry_laws.specs.Machines.{HasValidFields};
@@ -9,10 +9,10 @@ ghost use Rattle.registry_store.specs.Promise.{NotesForeign, Represents, state_o
 ghost use Rattle.registry_store.specs.Queries.{IsUntouched};
 ghost use Rattle.registry_wire.specs.Record.{accepted_line, founding_line};
 ghost use Rattle.shared_registry.specs.Lines.{fault_in};
-ghost use Rattle.shared_registry.specs.Records.{IsNextPart};
+ghost use Rattle.shared_registry.specs.Records.{IsNextPart, IsOfReading};
 
 use crate::stop::ShareStop;
-use registry_rules::Accepted;
+use registry_rules::{Accepted, Founding};
 use registry_store::Registry;
 use registry_wire::{accepted_line, founding_line};
 use shared_log::{Line, Lines};
@@ -35,9 +35,21 @@ fn lines_of(alloc: Global, list: &[Accepted]) -> Result<Lines, NoMemory>
     Ok(lines)
 }
 
-/// Returns the line of the founding.
+/// Returns the line of a founding.
+fn line_alone(alloc: Global, founding: &Founding) -> Result<Lines, NoMemory>
+    ensures { IfOk result (λ lines. lines ≡ founding_line founding.now ∷ []) }
+{
+    let line = founding_line(alloc, founding)?;
+    let mut lines = Lines::new(alloc);
+    lines.push(Line::new(line.into_bytes()))?;
+    Ok(lines)
+}
+
+/// Returns the line of the founding of a registry.
 fn first_line<S: Alter>(alloc: Global, registry: &mut Registry<S>) -> Result<Lines, ShareStop>
     ensures ok { (h : History) → Represents registry.old h → HasCleanDisk (state_of registry.new) → IfOk result (λ lines. lines ≡ founding_line h.founding ∷ []) }
+    ensures err { (h : History) → Represents registry.old h → HasCleanDisk (state_of registry.new) → IfErr result IsOfReading }
+    ensures never_ahead { result ≢ Err ShareStop.Ahead }
     ensures untouched { IsUntouched registry.old registry.new }
     ensures notes { NotesForeign registry.old registry.new (fault_in result) }
 {
@@ -45,10 +57,10 @@ fn first_line<S: Alter>(alloc: Global, registry: &mut Registry<S>) -> Result<Lin
         Ok(founding) => founding,
         Err(fault) => return Err(ShareStop::Registry(fault)),
     };
-    let line = founding_line(alloc, &founding)?;
-    let mut lines = Lines::new(alloc);
-    lines.push(Line::new(line.into_bytes()))?;
-    Ok(lines)
+    match line_alone(alloc, &founding) {
+        Ok(lines) => Ok(lines),
+        Err(NoMemory) => Err(ShareStop::NoMemory),
+    }
 }
 
 /// Returns lines of the record of the registry, from line `n` on. If there is one, returns at least
@@ -59,6 +71,8 @@ pub(crate) fn record_part<S: Alter>(
     n: u32,
 ) -> Result<Lines, ShareStop>
     ensures ok { (h : History) → Represents registry.old h → HasValidFields h → HasCleanDisk (state_of registry.new) → IfOk result (λ part. IsNextPart (record_of h) n part) }
+    ensures err { (h : History) → Represents registry.old h → HasCleanDisk (state_of registry.new) → IfErr result IsOfReading }
+    ensures never_ahead { result ≢ Err ShareStop.Ahead }
     ensures untouched { IsUntouched registry.old registry.new }
     ensures notes { NotesForeign registry.old registry.new (fault_in result) }
 {
@@ -66,7 +80,10 @@ pub(crate) fn record_part<S: Alter>(
         return first_line(alloc, registry);
     };
     match registry.accepted_after(u64::from(before), PIECE) {
-        Ok(list) => Ok(lines_of(alloc, &list)?),
+        Ok(list) => match lines_of(alloc, &list) {
+            Ok(lines) => Ok(lines),
+            Err(NoMemory) => Err(ShareStop::NoMemory),
+        },
         Err(fault) => Err(ShareStop::Registry(fault)),
     }
 }

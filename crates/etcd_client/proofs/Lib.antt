@@ -1,0 +1,4 @@
+pub mod GetsLemmas
+pub mod LogLemmas
+pub mod ResultLemmas
+pub mod SessionLemmas

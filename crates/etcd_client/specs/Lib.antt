@@ -1,0 +1,5 @@
+pub mod Faults
+pub mod Hosts
+pub mod Logs
+pub mod Messages
+pub mod Sessions

@@ -1,0 +1,24 @@
+use Rattle.std.proofs.Common.{◌≡◌, ◌∙◌, ap, arith}
+use Rattle.shared_registry.specs.declared.cursor.Cursor.{Cursor}
+use Rattle.shared_registry.proofs.FollowLemmas.{grows_on, line_grows}
+use Rattle.shared_registry.proofs.JoinLemmas.{line_passed, taken_apart}
+use Rattle.shared_registry.proofs.joining.append_lines.Goals as goal
+
+pub returns-in-Err-Taken-clause-err : goal.returns-in-Err-Taken-clause-err
+returns-in-Err-Taken-clause-err g c log kept h rest is passed =
+    let so_far = c.loop-line.invariant.passed log kept h rest is passed in
+    let none = rw (c.as_bytes.ensures, c.in-Err-Taken.field-0-is) at c.in-Err-Taken.ensures.err in
+    taken_apart g.L.Log log h kept c.args.cursor.now c.loop-line.cursor c.append.new.self c.args.lines.now rest c.loop-line.line-index c.line-item.result is c.loop-line.invariant.counted c.loop-line-test.true c.line-item.is so_far.1 none
+
+pub loop-line-preserved : goal.loop-line-preserved
+loop-line-preserved g c =
+    let has = rw c.as_bytes.ensures at c.in-Ok.ensures.ok in
+    record {
+      passed = λ log kept h rest is passed.
+          let so_far = c.loop-line.invariant.passed log kept h rest is passed in (
+            line_passed g.L.Log log h kept c.args.cursor.now c.loop-line.cursor c.append.new.self c.args.lines.now rest c.loop-line.line-index c.line-item.result is c.loop-line.invariant.counted c.loop-line-test.true c.line-item.is so_far.0 has,
+            grows_on (log c.args.cursor.now.log) (log c.loop-line.cursor.log) (log c.append.new.self.log) so_far.1 (line_grows g.L.Log log kept c.loop-line.cursor c.append.new.self c.line-item.result has),
+          );
+      small = c.in-Ok.ensures.small;
+      counted = (let next = ap (λ (d : Cursor g.row.L.Denot). d.next) has.passed in let counted = c.loop-line.invariant.counted in omega (arith, next, counted));
+    }

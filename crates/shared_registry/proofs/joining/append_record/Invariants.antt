@@ -1,0 +1,20 @@
+use Rattle.std.proofs.Common.{◌-◌, None}
+use Rattle.sqlite.specs.State.{HasCleanDisk}
+use Rattle.registry_rules.specs.History.{History}
+use Rattle.registry_laws.specs.Machines.{HasValidFields}
+use Rattle.registry_store.specs.Promise.{NotesForeign, Represents, state_of}
+use Rattle.registry_store.specs.Queries.{IsUntouched}
+use Rattle.shared_log.specs.Calls.{Grows, IsKept, LogLines}
+use Rattle.shared_registry.specs.Records.{HasPassed}
+use Rattle.shared_registry.proofs.joining.append_record.Given as goal
+
+abbrev pub invariant-loop-stop : goal.invariant-loop-stop
+invariant-loop-stop g l = record {
+  so_far : (lines : g.row.L.Denot → LogLines) → IsKept g.L.Log lines → (h : History) → Represents l.initial.registry h → HasValidFields h → HasPassed lines l.initial.cursor h → HasCleanDisk (state_of l.registry)
+      → HasPassed lines l.cursor h × Grows (lines l.initial.cursor.log) (lines l.cursor.log);
+  untouched : IsUntouched l.initial.registry l.registry;
+  notes : NotesForeign l.initial.registry l.registry None;
+}
+
+abbrev pub decreases-loop-stop : goal.decreases-loop-stop
+decreases-loop-stop g l = 4294967295 - l.cursor.next
