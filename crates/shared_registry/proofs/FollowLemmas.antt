@@ -1,15 +1,15 @@
 -- A registry that follows a log.
-use Rattle.std.proofs.Common.{◌≡◌, ◌≢◌, ◌≤◌, ◌<◌, ◌⊎◌, ◌∙◌, ◌+◌, ◌-◌, ℕ, zero, suc, List, [], ◌∷◌, ◌++◌, length, drop, slice_get, Option, Some, None, Bool, true, false, inl, inr, Result, Ok, Err, refl, sym, ap, subst, arith}
+use Rattle.std.proofs.Common.{◌≡◌, ◌≢◌, ◌≤◌, ◌<◌, ◌⊎◌, ◌∙◌, ◌+◌, ℕ, suc, List, [], ◌∷◌, ◌++◌, length, drop, slice_get, Some, None, Bool, true, false, inl, inr, refl, sym, ap, subst, arith}
 use Rattle.std.specs.Prelude.{nat_eq}
 use Rattle.std.proofs.lemmas.Bool.{eqb-false, eqb-true}
 use Rattle.std.proofs.lemmas.List.{append-nil, length-append}
 use Rattle.std.proofs.lemmas.Option.{slice_get_within}
 use Rattle.std.proofs.Math.Seq.{drop-append_seam}
 use Rattle.sqlite.specs.Store.{Ghosts}
-use Rattle.sqlite.specs.State.{State, HasCleanDisk}
+use Rattle.sqlite.specs.State.{State}
 use Rattle.registry_rules.specs.History.{History, with_deed}
 use Rattle.registry_rules.specs.Reply.{act_text}
-use Rattle.registry_rules.specs.Run.{Legal, after, after_one, after_verdict, reply_of, reply_to}
+use Rattle.registry_rules.specs.Run.{Legal, after_one, after_verdict, reply_of, reply_to}
 use Rattle.registry_rules.specs.Verdict.{verdict}
 use Rattle.registry_rules.specs.declared.deed.Deed.{Deed}
 use Rattle.registry_rules.specs.declared.order.Request.{Request}
@@ -19,16 +19,15 @@ use Rattle.registry_rules.specs.declared.verdict.Verdict.{Verdict}
 use Rattle.registry_rules.specs.declared.verdict.Verdict.TheVariants.{Kept, Refused, New}
 use Rattle.registry_rules.proofs.RunLemmas.{legal_after}
 use Rattle.registry_wire.specs.Record.{accepted_line}
-use Rattle.registry_laws.specs.Machines.{BeginsWith, HasValidFields, IsOfMachine, LeadsTo}
+use Rattle.registry_laws.specs.Machines.{BeginsWith, IsOfMachine, LeadsTo}
 use Rattle.registry_laws.specs.Records.{record_of}
 use Rattle.registry_laws.proofs.MachineLemmas.{appended_twice, whole_beginning}
 use Rattle.registry_tables.specs.Rows.{newest}
-use Rattle.registry_store.specs.Promise.{Leaves, Represents, poisoned_by, state_of}
+use Rattle.registry_store.specs.Promise.{Leaves, Represents, state_of}
 use Rattle.registry_store.specs.Queries.{IsUntouched}
-use Rattle.registry_store.specs.Witness.{WasSeen, IsHeard}
-use Rattle.registry_store.specs.declared.fault.Fault.{Fault}
+use Rattle.registry_store.specs.Witness.{WasSeen}
 use Rattle.registry_store.specs.declared.registry.Registry.{Registry}
-use Rattle.shared_log.specs.Calls.{LogLines, AppendMeans, AtSomeInstant, Grows, IsKept, IsPage, WasAppended}
+use Rattle.shared_log.specs.Calls.{LogLines, AppendMeans, AtSomeInstant, Grows, IsKept, IsPage}
 use Rattle.shared_log.specs.declared.answers.AppendAnswer.TheVariants as answers
 use Rattle.shared_log.specs.declared.answers.PageAnswer.{PageAnswer}
 use Rattle.shared_log.specs.declared.fault.LogFault.{LogFault}
@@ -38,10 +37,10 @@ use Rattle.shared_registry.specs.declared.cursor.AppendFault.TheVariants as faul
 use Rattle.shared_registry.specs.declared.cursor.Cursor.{Cursor}
 use Rattle.shared_registry.specs.declared.stop.ShareStop.{ShareStop}
 use Rattle.shared_registry.specs.declared.stop.ShareStop.TheVariants as stops
-use Rattle.shared_registry.specs.Cursors.{HasLine, HasNoLine, IsSamePlace, WasNotTaken, WasShown, accepted_as}
-use Rattle.shared_registry.specs.Follows.{Follows, FollowsLater, HasActed, HasFailed, HasFollowed, HasFollowedPage, HasOther, IsAnswered, IsLeft, WasWhole}
-use Rattle.shared_registry.specs.Lines.{Continues, ContinuesBy, GoesOver, IsStoppedBefore, IsStoppedIn}
-use Rattle.shared_registry.proofs.LineLemmas.{after_new, continued, leads_nowhere, leads_on, over_both, over_none, over_one}
+use Rattle.shared_registry.specs.Cursors.{HasLine, HasNoLine, WasShown, accepted_as}
+use Rattle.shared_registry.specs.Follows.{Follows, FollowsLater, HasActed, HasFailed, HasFollowed, HasFollowedPage, IsAnswered, IsLeft}
+use Rattle.shared_registry.specs.Lines.{Continues, GoesOver, IsStoppedBefore, IsStoppedIn}
+use Rattle.shared_registry.proofs.LineLemmas.{after_new, continued, leads_nowhere, leads_on, over_one}
 
 -- ---- lists that grow
 

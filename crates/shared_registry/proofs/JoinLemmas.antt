@@ -1,5 +1,5 @@
 -- A record compared with a log, or put into it.
-use Rattle.std.proofs.Common.{◌≡◌, ◌≢◌, ◌≤◌, ◌<◌, ◌⊎◌, ◌∙◌, ◌+◌, ◌-◌, ℕ, zero, suc, List, [], ◌∷◌, ◌++◌, length, map, take, drop, slice_get, Option, Some, None, Bool, true, false, inl, inr, Result, Ok, Err, refl, sym, ap, subst, arith}
+use Rattle.std.proofs.Common.{◌≡◌, ◌≢◌, ◌≤◌, ◌<◌, ◌∙◌, ◌+◌, ◌-◌, ℕ, zero, suc, List, [], ◌∷◌, ◌++◌, length, map, take, drop, slice_get, Some, false, inr, refl, sym, ap, subst, arith}
 use Rattle.std.specs.Prelude.{All, ⊤}
 use Rattle.std.proofs.lemmas.List.{append-nil, length-append, length-drop, take-append-drop, take-append-le}
 use Rattle.std.proofs.lemmas.List.Elements.{All-cons, All-head, All-nil, All-tail}
@@ -29,9 +29,9 @@ use Rattle.shared_registry.specs.declared.cursor.Cursor.{Cursor}
 use Rattle.shared_registry.specs.declared.stop.ShareStop.{ShareStop}
 use Rattle.shared_registry.specs.declared.stop.ShareStop.TheVariants as stops
 use Rattle.shared_registry.specs.Cursors.{HasLine, HasNoLine}
-use Rattle.shared_registry.specs.Follows.{Follows, HasFailed}
+use Rattle.shared_registry.specs.Follows.{Follows}
 use Rattle.shared_registry.specs.Records.{HasPassed, IsApart, IsNextPart, IsOfReading, IsOtherPage, IsUnshared, Matches}
-use Rattle.shared_registry.proofs.FollowLemmas.{earlier_start, grows_none, grows_on, line_taken, no_line_grows}
+use Rattle.shared_registry.proofs.FollowLemmas.{earlier_start, grows_none, grows_on, line_taken}
 use Rattle.shared_registry.proofs.LineLemmas.{long_front, take_next}
 
 -- ---- the fields of a history are valid

@@ -1,6 +1,6 @@
 -- The lines with which the record of a history goes on.
-use Rattle.std.proofs.Common.{◌≡◌, ◌≢◌, ◌≤◌, ◌<◌, ◌⊎◌, ◌∙◌, ◌+◌, ℕ, zero, suc, List, [], ◌∷◌, ◌++◌, length, take, drop, Option, Some, None, Bool, true, false, inl, inr, Result, Ok, Err, refl, sym, ap, subst, arith}
-use Rattle.std.specs.Prelude.{All, OnOk, is_some}
+use Rattle.std.proofs.Common.{◌≡◌, ◌≢◌, ◌≤◌, ◌<◌, ◌⊎◌, ◌∙◌, ◌+◌, ℕ, zero, suc, List, [], ◌∷◌, ◌++◌, length, take, drop, Option, Some, None, Bool, true, false, inl, inr, Result, Ok, refl, sym, ap, subst, arith}
+use Rattle.std.specs.Prelude.{is_some}
 use Rattle.std.proofs.lemmas.List.{append-nil, take-append-drop}
 use Rattle.std.proofs.lemmas.List.Elements.{All-append, All-cons, All-nil}
 use Rattle.std.proofs.Math.ListN.{get_or}
@@ -10,12 +10,11 @@ use Rattle.sqlite.specs.State.{State, HasCleanDisk}
 use Rattle.registry_rules.specs.Accepted.{accepted_by, accepted_of}
 use Rattle.registry_rules.specs.History.{History, with_deed}
 use Rattle.registry_rules.specs.Reply.{act_text}
-use Rattle.registry_rules.specs.Run.{after, after_one, after_verdict, reply_of, reply_to, request_of}
+use Rattle.registry_rules.specs.Run.{after, after_one, after_verdict, reply_of, reply_to}
 use Rattle.registry_rules.specs.Verdict.{verdict}
 use Rattle.registry_rules.specs.declared.accepted.Accepted.{Accepted}
 use Rattle.registry_rules.specs.declared.deed.Deed.{Deed}
 use Rattle.registry_rules.specs.declared.order.Request.{Request}
-use Rattle.registry_rules.specs.declared.verdict.Reply.{Reply}
 use Rattle.registry_rules.specs.declared.verdict.Reply.TheVariants.{Done}
 use Rattle.registry_rules.specs.declared.verdict.Verdict.{Verdict}
 use Rattle.registry_rules.specs.declared.verdict.Verdict.TheVariants.{Kept, Refused, New}

@@ -1,7 +1,7 @@
 -- A registry that follows a log of lines, which other machines may append to.
 --
 -- `lines` is what the log keeps; that it keeps them is the premise `IsKept` of each clause.
-use Rattle.std.specs.Prelude.{◌≡◌, ◌⊎◌, ◌<◌, ℕ, true, false, List, [], length, slice_get, Option, Some, None, Bool, Result, Ok, Err}
+use Rattle.std.specs.Prelude.{◌≡◌, ◌⊎◌, ◌<◌, ℕ, true, false, List, [], length, slice_get, Option, Some, None, Bool}
 use Rattle.sqlite.specs.Store.{Ghosts}
 use Rattle.registry_rules.specs.History.{History}
 use Rattle.registry_rules.specs.Run.{after_one, reply_to}

@@ -1,8 +1,6 @@
 -- The record of a registry, compared with a log or put into it.
 use Rattle.std.specs.Prelude.{◌≡◌, ◌≢◌, ◌⊎◌, ◌≤◌, ◌<◌, ◌+◌, ⊤, ℕ, Bool, true, false, List, [], ◌++◌, length, take, drop, slice_get, Some, Result, Ok, Err}
-use Rattle.sqlite.specs.Store.{Ghosts}
 use Rattle.registry_rules.specs.History.{History}
-use Rattle.registry_laws.specs.Machines.{BeginsWith}
 use Rattle.registry_laws.specs.Records.{record_of}
 use Rattle.registry_store.specs.declared.fault.Fault.TheVariants as faults
 use Rattle.shared_log.specs.Calls.{LogLines, AtSomeInstant, Grows}

@@ -1,4 +1,4 @@
-use Rattle.std.proofs.Common.{◌≡◌, ◌≤◌, ◌+◌, ◌∙◌, None, sym, subst, length, take, arith}
+use Rattle.std.proofs.Common.{◌≡◌, None, subst, take, arith}
 use Rattle.std.proofs.lemmas.List.{take_all}
 use Rattle.registry_store.specs.Promise.{state_of}
 use Rattle.registry_store.proofs.IsQueryLemmas.{notes_then}

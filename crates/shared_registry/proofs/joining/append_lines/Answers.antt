@@ -1,4 +1,4 @@
-use Rattle.std.proofs.Common.{◌≡◌, ◌∙◌, ap, arith}
+use Rattle.std.proofs.Common.{ap, arith}
 use Rattle.shared_registry.specs.declared.cursor.Cursor.{Cursor}
 use Rattle.shared_registry.proofs.FollowLemmas.{grows_on, line_grows}
 use Rattle.shared_registry.proofs.JoinLemmas.{line_passed, taken_apart}
