@@ -45,10 +45,10 @@ const LOGS: [(&[&str], &str); 8] = [
 // Returns a log with these lines.
 fn log_of(alloc: Global, lines: &[&str]) -> MemoryLog {
     let mut log = MemoryLog::new(alloc, 2);
-    let mut n = 0;
+    let mut n: u32 = 0;
     for line in lines {
         let _answer = log.append(alloc, n, line.as_bytes());
-        n += 1;
+        n = n.saturating_add(1);
     }
     log
 }
