@@ -47,7 +47,13 @@ fn respond_to_order<S: Alter>(
 }
 
 /// Returns the response to a query: the one that is cached, which is taken out, or else a new one.
-fn take_or_ask<S: Alter>(
+/// [`Cache::keep`] puts it back once it is written.
+///
+/// # Errors
+///
+/// `NoMemory` if out of memory. `Registry` after a fault of the store, or if the registry is poisoned
+/// and the response is not cached.
+pub fn answer_query<S: Alter>(
     alloc: Global,
     registry: &mut Registry<S>,
     cache: &mut Cache,
@@ -100,7 +106,7 @@ pub(crate) fn response_to<S: Alter>(
     ensures endures { Endures (state_of registry.old) (state_of registry.new) }
 {
     match said {
-        Ok(Message::Query(query)) => take_or_ask(alloc, registry, cache, query),
+        Ok(Message::Query(query)) => answer_query(alloc, registry, cache, query),
         Ok(Message::Request(request)) => respond_to_order(alloc, registry, request),
         Err(refusal) => refuse(alloc, *refusal),
     }

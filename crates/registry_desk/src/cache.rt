@@ -10,7 +10,7 @@ use registry_reports::ReportKind;
 
 /// The last list, the last report of each kind and the first founding, each as its whole response.
 #[derive(Drop)]
-pub(crate) struct Cache {
+pub struct Cache {
     list: Option<Response>,
     census: Option<Response>,
     holders: Option<Response>,
@@ -22,7 +22,7 @@ pub(crate) struct Cache {
 
 impl Cache {
     /// Makes an empty cache.
-    pub(crate) fn new() -> Cache
+    pub fn new() -> Cache
         ensures { result ≡ no_texts }
     {
         Cache {
@@ -80,7 +80,7 @@ impl Cache {
     }
 
     /// Drops all texts.
-    pub(crate) fn clear(&mut self)
+    pub fn clear(&mut self)
         ensures { self.new ≡ no_texts }
     {
         *self = Cache::new();
@@ -100,11 +100,7 @@ impl Cache {
 
     /// Keeps what was done for a message, if it is the list, a report or the first founding. An order
     /// drops the texts that it may have changed, and a fault drops all.
-    pub(crate) fn keep(
-        &mut self,
-        said: Result<Message, HttpRefusal>,
-        done: Result<Response, DeskFault>,
-    )
+    pub fn keep(&mut self, said: Result<Message, HttpRefusal>, done: Result<Response, DeskFault>)
         ensures { self.new ≡ cache_after self.old done said }
     {
         match done {

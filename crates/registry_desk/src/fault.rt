@@ -10,7 +10,7 @@ use usbnum_core::NoMemory;
 
 /// Why a message gets refusal 30 or 31 instead of a response of its own.
 #[derive(Clone, Copy, Debug, Drop, PartialEq, Eq)]
-pub(crate) enum DeskFault {
+pub enum DeskFault {
     /// The registry had a fault.
     Registry(Fault),
     /// Out of memory for the message or its response.
@@ -35,7 +35,7 @@ impl From<NoMemory> for DeskFault {
 }
 
 /// Returns the refusal for a fault: 31 when out of memory, 30 for any other.
-pub(crate) fn unavailable_of(fault: DeskFault) -> Unavailable
+pub fn unavailable_of(fault: DeskFault) -> Unavailable
     ensures { result ≡ unavailable_of fault }
 {
     match fault {

@@ -31,6 +31,12 @@
 //! response to its query over the history (`AreTextsOf`), so the clauses above hold of it too. We
 //! do not prove that a text is kept (`docs/contracts.md`). `serve_one` and `serve_next` keep none.
 //!
+//! # Queries alone
+//!
+//! [`answer_query`] returns the response to a query, for a server that follows a log before it
+//! answers. Its contract is that of a query above: `answered` says whose response it is, and `kind`
+//! which faults may come. [`Cache`] keeps the texts.
+//!
 //! # Rows of no history, and a poisoned registry
 //!
 //! Two promises hold whatever the store holds. If `act` or a query finds the rows of no history
@@ -53,6 +59,9 @@ mod queries;
 mod serve;
 mod server;
 
+pub use acting::answer_query;
+pub use cache::Cache;
+pub use fault::{DeskFault, unavailable_of};
 pub use laws::{has_one_response, leaves_answered};
 pub use serve::{Served, serve_one};
 pub use server::{Connections, ServerStop, serve_all, serve_next};

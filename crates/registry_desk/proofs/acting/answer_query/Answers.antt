@@ -1,7 +1,7 @@
 use Rattle.std.proofs.Common.{refl}
 use Rattle.registry_store.proofs.IsQueryLemmas.{untouched_itself}
 use Rattle.registry_desk.proofs.CacheLemmas.{never_taken, taken_of}
-use Rattle.registry_desk.proofs.acting.take_or_ask.Goals as goal
+use Rattle.registry_desk.proofs.acting.answer_query.Goals as goal
 
 pub returns-in-Some : goal.returns-in-Some
 returns-in-Some g c = record {
