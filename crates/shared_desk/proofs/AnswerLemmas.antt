@@ -1,0 +1,145 @@
+-- A query or an order over a log: the texts that stay cached, and what is left.
+use Rattle.std.proofs.Common.{◌≡◌, ◌≤◌, ◌∙◌, ◌+◌, ◌⊎◌, ℕ, List, [], ◌∷◌, ◌++◌, length, Bool, true, false, Option, inl, inr, refl, sym, ap, subst, arith}
+use Rattle.std.specs.Prelude.{Result, Ok, Err, nat_eq, if◌then◌else◌}
+use Rattle.std.proofs.lemmas.Bool.{eqb-false, eqb-true}
+use Rattle.std.proofs.lemmas.List.{length-append}
+use Rattle.sqlite.specs.Store.{Ghosts}
+use Rattle.registry_rules.specs.Accepted.{accepted_by}
+use Rattle.registry_rules.specs.History.{History}
+use Rattle.registry_rules.specs.Run.{after, after_one, after_verdict}
+use Rattle.registry_rules.specs.Verdict.{verdict}
+use Rattle.registry_rules.specs.declared.order.Request.{Request}
+use Rattle.registry_rules.specs.declared.verdict.Reply.{Reply}
+use Rattle.registry_rules.specs.declared.verdict.Verdict.{Verdict}
+use Rattle.registry_rules.specs.declared.verdict.Verdict.TheVariants.{Kept, Refused, New}
+use Rattle.registry_wire.specs.Record.{accepted_line}
+use Rattle.registry_laws.specs.Machines.{LeadsTo}
+use Rattle.registry_laws.specs.Records.{record_of}
+use Rattle.registry_laws.proofs.MachineLemmas.{record_with}
+use Rattle.registry_store.specs.declared.fault.Fault.{Fault}
+use Rattle.registry_store.specs.declared.fault.Fault.TheVariants as faults
+use Rattle.registry_store.specs.declared.registry.Registry.{Registry}
+use Rattle.registry_store.specs.Queries.{IsUntouched}
+use Rattle.registry_http.specs.declared.message.Message.{Message}
+use Rattle.registry_http.specs.declared.message.Message.TheVariants as messages
+use Rattle.registry_http.specs.declared.refusal.HttpRefusal.{HttpRefusal}
+use Rattle.registry_http.specs.declared.response.Response.{Response}
+use Rattle.registry_http.specs.declared.route.Query.{Query}
+use Rattle.registry_http.specs.Responses.{refusal_response, reply_response}
+use Rattle.registry_desk.specs.declared.cache.Cache.{Cache}
+use Rattle.registry_desk.specs.declared.fault.DeskFault.{DeskFault}
+use Rattle.registry_desk.specs.declared.fault.DeskFault.TheVariants as desk
+use Rattle.registry_desk.specs.Acting.{IsOfQuery, IsQueryResponse}
+use Rattle.registry_desk.specs.Cache.{AreTextsOf, no_texts, with_text}
+use Rattle.registry_desk.proofs.CacheLemmas.{none_are}
+use Rattle.shared_log.specs.Calls.{LogLines}
+use Rattle.shared_log.specs.declared.log.Log.{Ghosts as LogGhosts}
+use Rattle.shared_registry.specs.Follows.{Follows, HasFollowed, IsAnswered, IsLeft}
+use Rattle.shared_registry.specs.declared.cursor.Cursor.{Cursor}
+use Rattle.shared_registry.specs.declared.stop.ShareStop.{ShareStop}
+use Rattle.shared_registry.specs.declared.stop.ShareStop.TheVariants as stops
+use Rattle.shared_registry.proofs.FollowLemmas.{grows_none, still_follows}
+use Rattle.shared_registry.proofs.LineLemmas.{leads_nowhere, leads_on}
+use Rattle.shared_desk.specs.Answers.{Answers, IsUnanswered}
+use Rattle.shared_desk.specs.Refusals.{stop_of}
+
+-- ---- a history to which requests lead has no fewer lines, and with as many it is the same
+
+longer_by : (h : History) (v : Verdict) → length (record_of h) ≤ length (record_of (after_verdict h v))
+longer_by h (Kept text) = omega arith
+longer_by h (Refused refusal) = omega arith
+longer_by h (New deed) = let is = ap length (record_with h deed) ∙ length-append (record_of h) (accepted_line (accepted_by deed) ∷ []) in omega (arith, is)
+
+longer : (h : History) (requests : List Request) → length (record_of h) ≤ length (record_of (after h requests))
+longer h [] = omega arith
+longer h (r ∷ requests) = let one = longer_by h (verdict h r) in let more = longer (after_one h r) requests in omega (arith, one, more)
+
+same_by : (h : History) (v : Verdict) → length (record_of (after_verdict h v)) ≤ length (record_of h) → after_verdict h v ≡ h
+same_by h (Kept text) short = refl
+same_by h (Refused refusal) short = refl
+same_by h (New deed) short = let is = ap length (record_with h deed) ∙ length-append (record_of h) (accepted_line (accepted_by deed) ∷ []) in absurd (omega (arith, is, short))
+
+same_after : (h : History) (requests : List Request) → length (record_of (after h requests)) ≤ length (record_of h) → after h requests ≡ h
+same_after h [] short = refl
+same_after h (r ∷ requests) short =
+    let one = longer_by h (verdict h r) in
+    let more = longer (after_one h r) requests in
+    same_after (after_one h r) requests (omega (arith, short, one)) ∙ same_by h (verdict h r) (omega (arith, short, more))
+
+pub unmoved : (h x : History) → LeadsTo h x → length (record_of x) ≤ length (record_of h) → x ≡ h
+unmoved h x leads short =
+    let is = ap (λ (y : History). length (record_of y)) leads.1 in
+    leads.1 ∙ same_after h leads.0 (omega (arith, is, short))
+
+-- ---- the texts that stay cached
+
+texts_by : (h x : History) (cache new : Cache) (now before : ℕ) (same : Bool) → nat_eq now before ≡ same → new ≡ (if same then cache else no_texts)
+    → (now ≡ before → x ≡ h) → AreTextsOf h cache → AreTextsOf x new
+texts_by h x cache new now before true test is unchanged of = rw is (rw (unchanged (eqb-true now before test)) of)
+texts_by h x cache new now before false test is unchanged of = none_are x new is
+
+-- they are dropped if a line was acted on
+pub texts_stay : (h x : History) (cache new : Cache) (now before : ℕ) → new ≡ (if nat_eq now before then cache else no_texts) → before ≡ length (record_of h) → now ≡ length (record_of x) → LeadsTo h x
+    → AreTextsOf h cache → AreTextsOf x new
+texts_stay h x cache new now before is at_h at_x leads of =
+    texts_by h x cache new now before (nat_eq now before) refl is (λ same. unmoved h x leads (omega (arith, same, at_h, at_x))) of
+
+-- and they are of the history before the order too
+texts_before : (h x : History) (r : Request) (cache new : Cache) (now before : ℕ) → new ≡ (if nat_eq now before then cache else no_texts) → before ≡ length (record_of h) → now ≡ length (record_of (after_one x r)) → LeadsTo h x
+    → AreTextsOf h cache → AreTextsOf x new
+texts_before h x r cache new now before is at_h at_next leads of =
+    let one = longer_by x (verdict x r) in
+    texts_by h x cache new now before (nat_eq now before) refl is (λ same. unmoved h x leads (omega (arith, same, at_h, at_next, one))) of
+
+module _ {S : Type 0} {g : Ghosts S} {L : Type 0} (l : LogGhosts L) (lines : L → LogLines) (c : Cursor L) (h : History) where
+  -- ---- queries
+
+  -- a query was answered over the history of the whole log
+  pub query_answered : (mid new : Registry S g) (c_new : Cursor L) (query : Query) (response : Response) (cache cache_new : Cache) → (followed : HasFollowed l lines c mid c_new h) → AreTextsOf followed.now cache
+      → IsUntouched mid new → IsQueryResponse followed.now query response → cache_new ≡ with_text cache query None → Answers l lines c new c_new h (Ok (messages.Query query)) response cache_new
+  query_answered mid new c_new query response cache cache_new followed of left is taken = record {
+    next = followed.now;
+    answer = record { before = followed.now; leads = followed.leads; whole = λ asked. followed.whole; response_is = is; next_is = refl };
+    follows = still_follows l lines mid c_new new c_new followed.now followed.follows (left.stays followed.now followed.follows.represents) (grows_none (lines c_new.log)) refl;
+    texts = cache;
+    texts_of = of;
+    beside = taken;
+  }
+
+  -- the store failed at a query, or memory ran out
+  pub query_unanswered : (mid new : Registry S g) (c_new : Cursor L) (fault : DeskFault) → HasFollowed l lines c mid c_new h → IsUntouched mid new → IsOfQuery fault → (query : Query) → IsUnanswered l lines c new c_new h (Ok (messages.Query query)) (stop_of fault)
+  query_unanswered mid new c_new fault followed left (inl memory) query = rw memory (inl (followed.now, followed.leads, still_follows l lines mid c_new new c_new followed.now followed.follows (left.stays followed.now followed.follows.represents) (grows_none (lines c_new.log)) refl))
+  query_unanswered mid new c_new fault followed left (inr store) query = rw store (inr (query, refl, (followed.now, followed.leads, still_follows l lines mid c_new new c_new followed.now followed.follows (left.stays followed.now followed.follows.represents) (grows_none (lines c_new.log)) refl), refl))
+
+  -- ---- orders
+
+  -- an order was answered over the history of the whole log
+  pub order_answered : (new : Registry S g) (c_new : Cursor L) (r : Request) (reply : Reply) (response : Response) (cache cache_new : Cache) → IsAnswered l lines c new c_new h r reply → response ≡ reply_response reply
+      → c.next ≡ length (record_of h) → AreTextsOf h cache → cache_new ≡ (if nat_eq c_new.next c.next then cache else no_texts) → Answers l lines c new c_new h (Ok (messages.Request r)) response cache_new
+  order_answered new c_new r reply response cache cache_new it is at_h of dropped = record {
+    next = after_one it.before r;
+    answer = record { before = it.before; leads = it.leads; whole = λ asked. it.whole; response_is = is ∙ ap reply_response it.reply_is; next_is = refl };
+    follows = it.follows;
+    texts = cache_new;
+    texts_of = texts_before h it.before r cache cache_new c_new.next c.next dropped at_h it.follows.next it.leads of;
+    beside = refl;
+  }
+
+  -- it has taken effect, and memory ran out for its response
+  pub order_unanswered : (new : Registry S g) (c_new : Cursor L) (r : Request) (reply : Reply) → IsAnswered l lines c new c_new h r reply → IsLeft l lines c new c_new h stops.NoMemory
+  order_unanswered new c_new r reply it = (after_one it.before r, leads_on h it.before (after_one it.before r) it.leads (r ∷ [], refl), it.follows)
+
+  -- ---- messages that are refused
+
+  pub refused_answered : (it : Registry S g) (refusal : HttpRefusal) (response : Response) (cache : Cache) → Follows l lines it c h → AreTextsOf h cache → response ≡ refusal_response refusal → Answers l lines c it c h (Err refusal) response cache
+  refused_answered it refusal response cache follows of is = record {
+    next = h;
+    answer = record { before = h; leads = leads_nowhere h; whole = λ asked. absurd asked; response_is = is; next_is = refl };
+    follows = follows;
+    texts = cache;
+    texts_of = of;
+    beside = refl;
+  }
+
+  pub refused_unanswered : (it : Registry S g) → Follows l lines it c h → IsLeft l lines c it c h stops.NoMemory
+  refused_unanswered it follows = (h, leads_nowhere h, follows)

@@ -1,0 +1,4 @@
+pub mod AnswerLemmas
+pub mod LawLemmas
+pub mod ServeLemmas
+pub mod ServerLemmas

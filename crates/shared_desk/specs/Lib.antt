@@ -1,0 +1,5 @@
+pub mod Refusals
+pub mod Answers
+pub mod Serving
+pub mod Server
+pub mod Laws

@@ -1,0 +1,154 @@
+//! Answers a message over the log that the registry follows.
+
+ghost use Rattle.std.specs.Prelude.{◌≡◌, true, Ok, Err, IfErr, IfOk, OnOk, nat_eq, if◌then◌else◌};
+ghost use Rattle.sqlite.specs.State.{HasCleanDisk};
+ghost use Rattle.registry_rules.specs.History.{History};
+ghost use Rattle.registry_store.specs.Promise.{Endures, NotesForeign, is_poisoned, state_of};
+ghost use Rattle.registry_http.specs.Responses.{refusal_response};
+ghost use Rattle.registry_http.specs.declared.message.Message.TheVariants as messages;
+ghost use Rattle.registry_desk.specs.Cache.{AreTextsOf, no_texts};
+ghost use Rattle.shared_log.specs.Calls.{IsKept, LogLines};
+ghost use Rattle.shared_registry.specs.Lines.{fault_in};
+ghost use Rattle.shared_registry.specs.Follows.{Follows, HasFollowed, IsLeft};
+ghost use Rattle.shared_registry.specs.declared.stop.ShareStop.TheVariants as stops;
+ghost use Rattle.shared_desk.specs.Answers.{Answers, IsUnanswered};
+
+use crate::refusal::stop_of;
+use registry_desk::{Cache, answer_query};
+use registry_http::{HttpRefusal, Message, Query, Response, refusal_response, reply_response};
+use registry_rules::Request;
+use registry_store::{Fault, Registry};
+use shared_log::Log;
+use shared_registry::{Cursor, ShareStop, act, follow};
+use sqlite::Alter;
+use std::alloc::Global;
+
+/// Drops the cached texts if the place in the log is no longer this one: then the registry has acted on
+/// a line.
+fn drop_if_moved<L: Log>(cache: &mut Cache, cursor: &Cursor<L>, before: u32)
+    ensures { cache.new ≡ (if nat_eq cursor.now.next before then cache.old else no_texts) }
+{
+    if cursor.next() != before {
+        cache.clear();
+    }
+}
+
+/// Acts on the lines of the log that the registry has not acted on. Drops the cached texts if there are
+/// any.
+fn follow_first<S: Alter, L: Log>(
+    registry: &mut Registry<S>,
+    cursor: &mut Cursor<L>,
+    cache: &mut Cache,
+) -> Result<(), ShareStop>
+    ensures when_poisoned { is_poisoned registry.old ≡ true → (result ≡ Err (ShareStop.Registry Fault.Poisoned)) × (registry.new ≡ registry.old) × (cursor.new ≡ cursor.old) }
+    ensures ok { (lines : L → LogLines) → IsKept L.Log lines → (h : History) → Follows L.Log lines registry.old cursor.old h → HasCleanDisk (state_of registry.new) → AreTextsOf h cache.old
+        → OnOk result ((followed : HasFollowed L.Log lines cursor.old registry.new cursor.new h) × AreTextsOf followed.now cache.new) }
+    ensures err { (lines : L → LogLines) → IsKept L.Log lines → (h : History) → Follows L.Log lines registry.old cursor.old h → HasCleanDisk (state_of registry.new)
+        → IfErr result (IsLeft L.Log lines cursor.old registry.new cursor.new h) }
+    ensures notes { NotesForeign registry.old registry.new (fault_in result) }
+    ensures endures { Endures (state_of registry.old) (state_of registry.new) }
+{
+    let before = cursor.next();
+    match follow(registry, cursor) {
+        Ok(()) => {
+            drop_if_moved(cache, cursor, before);
+            Ok(())
+        }
+        Err(stop) => Err(stop),
+    }
+}
+
+/// Follows the log, and returns the response to a query.
+fn answer_after_following<S: Alter, L: Log>(
+    alloc: Global,
+    registry: &mut Registry<S>,
+    cursor: &mut Cursor<L>,
+    cache: &mut Cache,
+    query: &Query,
+) -> Result<Response, ShareStop>
+    ensures when_poisoned { is_poisoned registry.old ≡ true → (result ≡ Err (ShareStop.Registry Fault.Poisoned)) × (registry.new ≡ registry.old) × (cursor.new ≡ cursor.old) }
+    ensures ok { (lines : L → LogLines) → IsKept L.Log lines → (h : History) → Follows L.Log lines registry.old cursor.old h → HasCleanDisk (state_of registry.new) → AreTextsOf h cache.old
+        → IfOk result (λ response. Answers L.Log lines cursor.old registry.new cursor.new h (Ok (messages.Query query.now)) response cache.new) }
+    ensures err { (lines : L → LogLines) → IsKept L.Log lines → (h : History) → Follows L.Log lines registry.old cursor.old h → HasCleanDisk (state_of registry.new)
+        → IfErr result (IsUnanswered L.Log lines cursor.old registry.new cursor.new h (Ok (messages.Query query.now))) }
+    ensures notes { NotesForeign registry.old registry.new (fault_in result) }
+    ensures endures { Endures (state_of registry.old) (state_of registry.new) }
+{
+    if let Err(stop) = follow_first(registry, cursor, cache) {
+        return Err(stop);
+    }
+    match answer_query(alloc, registry, cache, query) {
+        Ok(response) => Ok(response),
+        Err(fault) => Err(stop_of(fault)),
+    }
+}
+
+/// Acts on an order over the log, and returns the response. Drops the cached texts if the registry has
+/// acted on a line.
+fn act_on_order<S: Alter, L: Log>(
+    alloc: Global,
+    registry: &mut Registry<S>,
+    cursor: &mut Cursor<L>,
+    cache: &mut Cache,
+    request: &Request,
+) -> Result<Response, ShareStop>
+    ensures when_poisoned { is_poisoned registry.old ≡ true → (result ≡ Err (ShareStop.Registry Fault.Poisoned)) × (registry.new ≡ registry.old) × (cursor.new ≡ cursor.old) }
+    ensures ok { (lines : L → LogLines) → IsKept L.Log lines → (h : History) → Follows L.Log lines registry.old cursor.old h → HasCleanDisk (state_of registry.new) → AreTextsOf h cache.old
+        → IfOk result (λ response. Answers L.Log lines cursor.old registry.new cursor.new h (Ok (messages.Request request.now)) response cache.new) }
+    ensures err { (lines : L → LogLines) → IsKept L.Log lines → (h : History) → Follows L.Log lines registry.old cursor.old h → HasCleanDisk (state_of registry.new)
+        → IfErr result (IsLeft L.Log lines cursor.old registry.new cursor.new h) }
+    ensures notes { NotesForeign registry.old registry.new (fault_in result) }
+    ensures endures { Endures (state_of registry.old) (state_of registry.new) }
+{
+    let before = cursor.next();
+    match act(registry, cursor, request) {
+        Ok(reply) => {
+            drop_if_moved(cache, cursor, before);
+            match reply_response(alloc, &reply) {
+                Ok(response) => Ok(response),
+                Err(_) => Err(ShareStop::NoMemory),
+            }
+        }
+        Err(stop) => Err(stop),
+    }
+}
+
+/// Returns the response to a message that is refused by itself.
+fn refuse(alloc: Global, refusal: HttpRefusal) -> Result<Response, ShareStop>
+    ensures ok { IfOk result (λ response. response ≡ refusal_response refusal) }
+    ensures err { IfErr result (λ stop. stop ≡ stops.NoMemory) }
+{
+    match refusal_response(alloc, refusal) {
+        Ok(response) => Ok(response),
+        Err(_) => Err(ShareStop::NoMemory),
+    }
+}
+
+/// Follows the log, acts on what a message says, and returns the response. A cached response is taken
+/// out.
+pub(crate) fn answer<S: Alter, L: Log>(
+    alloc: Global,
+    registry: &mut Registry<S>,
+    cursor: &mut Cursor<L>,
+    cache: &mut Cache,
+    said: &Result<Message, HttpRefusal>,
+) -> Result<Response, ShareStop>
+    ensures ok { (lines : L → LogLines) → IsKept L.Log lines → (h : History) → Follows L.Log lines registry.old cursor.old h → HasCleanDisk (state_of registry.new) → AreTextsOf h cache.old
+        → IfOk result (λ response. Answers L.Log lines cursor.old registry.new cursor.new h said.now response cache.new) }
+    ensures err { (lines : L → LogLines) → IsKept L.Log lines → (h : History) → Follows L.Log lines registry.old cursor.old h → HasCleanDisk (state_of registry.new)
+        → IfErr result (IsUnanswered L.Log lines cursor.old registry.new cursor.new h said.now) }
+    // A message that is refused gets its refusal, over any registry.
+    ensures refused { IfErr said.now (λ refusal. IfOk result (λ response. response ≡ refusal_response refusal) × IfErr result (λ stop. stop ≡ stops.NoMemory) × (registry.new ≡ registry.old) × (cursor.new ≡ cursor.old)) }
+    // An order or a query gets no response over a poisoned registry.
+    ensures when_poisoned { is_poisoned registry.old ≡ true → OnOk said.now ((result ≡ Err (ShareStop.Registry Fault.Poisoned)) × (registry.new ≡ registry.old) × (cursor.new ≡ cursor.old)) }
+    ensures notes { NotesForeign registry.old registry.new (fault_in result) }
+    ensures endures { Endures (state_of registry.old) (state_of registry.new) }
+{
+    match said {
+        Ok(Message::Query(query)) => {
+            answer_after_following(alloc, registry, cursor, cache, query)
+        }
+        Ok(Message::Request(request)) => act_on_order(alloc, registry, cursor, cache, request),
+        Err(refusal) => refuse(alloc, *refusal),
+    }
+}
