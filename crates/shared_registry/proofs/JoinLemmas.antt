@@ -28,10 +28,11 @@ use Rattle.shared_registry.specs.declared.cursor.AppendFault.TheVariants as faul
 use Rattle.shared_registry.specs.declared.cursor.Cursor.{Cursor}
 use Rattle.shared_registry.specs.declared.stop.ShareStop.{ShareStop}
 use Rattle.shared_registry.specs.declared.stop.ShareStop.TheVariants as stops
+use Rattle.shared_registry.specs.Asks.{AppendsLines, AppendsRecord}
 use Rattle.shared_registry.specs.Cursors.{HasLine, HasNoLine}
 use Rattle.shared_registry.specs.Follows.{Follows}
 use Rattle.shared_registry.specs.Records.{HasPassed, IsApart, IsNextPart, IsOfReading, IsOtherPage, IsUnshared, Matches}
-use Rattle.shared_registry.proofs.FollowLemmas.{earlier_start, grows_none, grows_on, line_taken}
+use Rattle.shared_registry.proofs.FollowLemmas.{earlier_start, grows_none, grows_on, line_taken, no_line_grows}
 use Rattle.shared_registry.proofs.LineLemmas.{long_front, take_next}
 
 -- ---- the fields of a history are valid
@@ -127,6 +128,11 @@ ends_apart ours theirs i line lt is other same = other (sym same ∙ slice_get-g
 
 -- ---- a cursor before the rest of a record
 
+-- a line of the next part is one of the record
+pub part_of_record : (h : History) (n : ℕ) (part rest : LogLines) → drop n (record_of h) ≡ part ++ rest → (m : ℕ) (line : List ℕ) → AppendsLines part n m line → AppendsRecord h m line
+part_of_record h n part rest is m line it =
+    rw it.1 (at_dropped n (record_of h) it.0 ∙ ap (λ (d : LogLines). slice_get d it.0) is ∙ in_beginning part rest it.0 (slice_get_within part it.0 line it.2) ∙ it.2)
+
 module _ {L : Type 0} (l : LogGhosts L) (lines : L → LogLines) (h : History) where
   -- nothing is passed yet
   pub none_passed : (c : Cursor L) → c.next ≡ 0 → HasPassed lines c h
@@ -165,36 +171,41 @@ module _ {L : Type 0} (l : LogGhosts L) (lines : L → LogLines) (h : History) w
         last = at.held.2;
       }
 
-  -- the first lines of the part are those of the page
-  pub page_passed : (c c_new : Cursor L) (part : LogLines) (page : PageAnswer) (count : ℕ) → HasPassed lines c h → IsNextPart (record_of h) c.next part → AtSomeInstant (lines c.log) (lines c_new.log) (IsPage c.next page)
-      → Matches part page.lines count → c_new.next ≡ c.next + count → HasPassed lines c_new h
-  page_passed c c_new part page count passed is at same next =
-      let read = was_read c c_new.log page passed at in
+  -- the first lines of the part are those of the page, and so the log begins with the record up to them
+  page_begins : (c : Cursor L) (now : L) (part : LogLines) (page : PageAnswer) (count : ℕ) → HasPassed lines c h → IsNextPart (record_of h) c.next part → AtSomeInstant (lines c.log) (lines now) (IsPage c.next page)
+      → count ≤ length part → take count part ≡ take count page.lines → Grows (take (c.next + count) (record_of h)) (lines now)
+  page_begins c now part page count passed is at within same =
+      let read = was_read c now page passed at in
       let front = take c.next (record_of h) in
-      let cut : page.lines ≡ take count part ++ drop count page.lines = sym (take-append-drop count page.lines) ∙ ap (λ (t : LogLines). t ++ drop count page.lines) (sym same.same) in
+      let cut : page.lines ≡ take count part ++ drop count page.lines = sym (take-append-drop count page.lines) ∙ ap (λ (t : LogLines). t ++ drop count page.lines) (sym same) in
       let ours : take (c.next + count) (record_of h) ≡ front ++ take count part =
-      take-add c.next count (record_of h) ∙ ap (λ (d : LogLines). front ++ take count d) is.next ∙ ap (λ (t : LogLines). front ++ t) (take-append-le count part is.rest same.within) in
+      take-add c.next count (record_of h) ∙ ap (λ (d : LogLines). front ++ take count d) is.next ∙ ap (λ (t : LogLines). front ++ t) (take-append-le count part is.rest within) in
       let there : read.there.instant ≡ (front ++ take count part) ++ (drop count page.lines ++ read.rest) =
       read.is ∙ ap (λ (p : LogLines). front ++ (p ++ read.rest)) cut ∙ ap (λ (p : LogLines). front ++ p) (appended_twice (take count part) (drop count page.lines) read.rest)
       ∙ sym (appended_twice front (take count part) (drop count page.lines ++ read.rest)) in
+      grows_on (take (c.next + count) (record_of h)) read.there.instant (lines now) (drop count page.lines ++ read.rest, there ∙ ap (λ (f : LogLines). f ++ (drop count page.lines ++ read.rest)) (sym ours)) read.there.after
+
+  pub page_passed : (c c_new : Cursor L) (part : LogLines) (page : PageAnswer) (count : ℕ) → HasPassed lines c h → IsNextPart (record_of h) c.next part → AtSomeInstant (lines c.log) (lines c_new.log) (IsPage c.next page)
+      → Matches part page.lines count → c_new.next ≡ c.next + count → HasPassed lines c_new h
+  page_passed c c_new part page count passed is at same next =
       let long = long_record c part is.rest passed is.next in
       let few = same.within in
       record {
         within = omega (arith, long, few, next);
-        begins = subst (λ (n : ℕ). Grows (take n (record_of h)) (lines c_new.log)) (sym next)
-            (grows_on (take (c.next + count) (record_of h)) read.there.instant (lines c_new.log) (drop count page.lines ++ read.rest, there ∙ ap (λ (f : LogLines). f ++ (drop count page.lines ++ read.rest)) (sym ours)) read.there.after);
+        begins = subst (λ (n : ℕ). Grows (take n (record_of h)) (lines c_new.log)) (sym next) (page_begins c c_new.log part page count passed is at few same.same);
       }
 
   -- ---- why a page is another
 
   page_apart : (c : Cursor L) (now : L) (part : LogLines) (page : PageAnswer) (count : ℕ) → HasPassed lines c h → IsNextPart (record_of h) c.next part → AtSomeInstant (lines c.log) (lines now) (IsPage c.next page)
-      → count < length part → count < length page.lines → slice_get part count ≢ slice_get page.lines count → IsApart (lines c.log) (lines now) h (c.next + count)
-  page_apart c now part page count passed is at ours theirs other =
+      → count < length part → count < length page.lines → take count part ≡ take count page.lines → slice_get part count ≢ slice_get page.lines count → IsApart (lines c.log) (lines now) h (c.next + count)
+  page_apart c now part page count passed is at ours theirs before other =
       let read = was_read c now page passed at in
       let front = take c.next (record_of h) in
       let line = some_at page.lines count theirs in
       let place : c.next + count ≡ length front + count = ap (λ (n : ℕ). n + count) (sym (long_front c.next (record_of h) passed.within)) in
       record {
+        same = page_begins c now part page count passed is at (omega (arith, ours)) before;
         line = line.0;
         there = record {
           instant = read.there.instant;
@@ -223,7 +234,7 @@ module _ {L : Type 0} (l : LogGhosts L) (lines : L → LogLines) (h : History) w
       → l.reads c.log now c.next page → (stop : ShareStop) → IsOtherPage part page.lines page.more c.next stop → IsUnshared l lines h c.log now stop
   page_other c now part page passed is some at reads (stops.Registry fault) it = absurd it
   page_other c now part page passed is some at reads (stops.Log fault) it = record { old = c.log; grown = grows_none (lines c.log); failed = inr (c.next, page, reads, it.0, it.1, it.2) }
-  page_other c now part page passed is some at reads (stops.OtherRecord n) it = subst (IsApart (lines c.log) (lines now) h) (sym it.1) (page_apart c now part page it.0 passed is at it.2 it.3 it.4)
+  page_other c now part page passed is some at reads (stops.OtherRecord n) it = subst (IsApart (lines c.log) (lines now) h) (sym it.1) (page_apart c now part page it.0 passed is at it.2 it.3 it.4 it.5)
   page_other c now part page passed is some at reads stops.Ahead it = page_short c now part page passed is some at it.0 it.1
   page_other c now part page passed is some at reads stops.Full it = let long = long_record c part is.rest passed is.next in omega (arith, it, long)
   page_other c now part page passed is some at reads stops.NoMemory it = absurd it
@@ -261,13 +272,14 @@ module _ {L : Type 0} (l : LogGhosts L) (lines : L → LogLines) (h : History) w
 
   -- another line was under the number
   pub taken_apart : IsKept l lines → (start c c_new : Cursor L) (these rest : LogLines) (i : ℕ) (line : List ℕ) → drop start.next (record_of h) ≡ these ++ rest → c.next ≡ start.next + i → i < length these → line ≡ get_or these i line
-      → Grows (lines start.log) (lines c.log) → HasNoLine l c c_new line faults.Taken → IsApart (lines start.log) (lines c_new.log) h c_new.next
-  taken_apart kept start c c_new these rest i line is counted lt here grown it =
+      → HasPassed lines c h → Grows (lines start.log) (lines c.log) → HasNoLine l c c_new line faults.Taken → IsApart (lines start.log) (lines c_new.log) h c_new.next
+  taken_apart kept start c c_new these rest i line is counted lt here passed grown it =
       let means = kept.appends c.log c_new.log c.next line (answers.Taken it.0.0) it.0.2 in
       let same : c_new.next ≡ c.next = ap (λ (d : Cursor L). d.next) it.1 in
       let at : slice_get (record_of h) c_new.next ≡ Some line = ap (slice_get (record_of h)) (same ∙ counted) ∙ line_of_record start these rest i line is lt here in
       let there = earlier_start (lines start.log) (lines c.log) (lines c_new.log) _ grown means in
       record {
+        same = subst (λ (n : ℕ). Grows (take n (record_of h)) (lines c_new.log)) (sym same) (grows_on (take c.next (record_of h)) (lines c.log) (lines c_new.log) passed.begins (no_line_grows l lines kept c c_new line faults.Taken it));
         line = it.0.0;
         there = record { instant = there.instant; before = there.before; after = there.after; held = ap (slice_get there.instant) same ∙ there.held };
         other = λ mine. it.0.1 (let both : Some line ≡ Some it.0.0 = sym at ∙ mine in let equal : line ≡ it.0.0 = cc in sym equal);
@@ -278,7 +290,7 @@ module _ {L : Type 0} (l : LogGhosts L) (lines : L → LogLines) (h : History) w
   pub unshared_since : (start c now : L) → Grows (lines start) (lines c) → (stop : ShareStop) → IsUnshared l lines h c now stop → IsUnshared l lines h start now stop
   unshared_since start c now grown (stops.Registry fault) it = it
   unshared_since start c now grown (stops.Log fault) it = record { old = it.old; grown = grows_on (lines start) (lines c) (lines it.old) grown it.grown; failed = it.failed }
-  unshared_since start c now grown (stops.OtherRecord n) it = record { line = it.line; there = earlier_start (lines start) (lines c) (lines now) _ grown it.there; other = it.other }
+  unshared_since start c now grown (stops.OtherRecord n) it = record { same = it.same; line = it.line; there = earlier_start (lines start) (lines c) (lines now) _ grown it.there; other = it.other }
   unshared_since start c now grown stops.Ahead it = earlier_start (lines start) (lines c) (lines now) _ grown it
   unshared_since start c now grown stops.Full it = it
   unshared_since start c now grown stops.NoMemory it = grows_on (lines start) (lines c) (lines now) grown it

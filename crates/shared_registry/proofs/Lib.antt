@@ -1,3 +1,4 @@
 pub mod FollowLemmas
+pub mod AskLemmas
 pub mod JoinLemmas
 pub mod LineLemmas

@@ -2,3 +2,4 @@ pub mod Cursors
 pub mod Follows
 pub mod Lines
 pub mod Records
+pub mod Asks

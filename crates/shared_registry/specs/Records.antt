@@ -39,8 +39,9 @@ pub record HasPassed {L : Type 0} (lines : L → LogLines) (c : Cursor L) (h : H
   pub within : c.next ≤ length (record_of h)
   pub begins : Grows (take c.next (record_of h)) (lines c.log)
 
--- the log had another line under this number than the record
+-- the log had another line under this number than the record, and the same lines before it
 pub record IsApart (old new : LogLines) (h : History) (n : ℕ) : Type 0 where
+  pub same : Grows (take n (record_of h)) new
   pub line : List ℕ
   pub there : AtSomeInstant old new (λ log. slice_get log n ≡ Some line)
   pub other : slice_get (record_of h) n ≢ Some line
@@ -59,7 +60,7 @@ module _ {L : Type 0} (l : LogGhosts L) (lines : L → LogLines) (h : History) w
 abbrev pub IsOtherPage : LogLines → LogLines → Bool → ℕ → ShareStop → Type 0
 IsOtherPage ours theirs more next (stops.Registry fault) = ⊥
 IsOtherPage ours theirs more next (stops.Log fault) = (theirs ≡ []) × (more ≡ true) × (fault ≡ BadAnswer)
-IsOtherPage ours theirs more next (stops.OtherRecord n) = (count : ℕ) × (n ≡ next + count) × (count < length ours) × (count < length theirs) × (slice_get ours count ≢ slice_get theirs count)
+IsOtherPage ours theirs more next (stops.OtherRecord n) = (count : ℕ) × (n ≡ next + count) × (count < length ours) × (count < length theirs) × (take count ours ≡ take count theirs) × (slice_get ours count ≢ slice_get theirs count)
 IsOtherPage ours theirs more next stops.Ahead = (theirs ≡ []) × (more ≡ false)
 IsOtherPage ours theirs more next stops.Full = most_lines < next + length ours
 IsOtherPage ours theirs more next stops.NoMemory = ⊥

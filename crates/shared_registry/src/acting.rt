@@ -3,8 +3,9 @@
 ghost use Rattle.std.specs.Prelude.{◌≡◌, true, None, Err, IfErr, IfOk};
 ghost use Rattle.sqlite.specs.State.{HasCleanDisk};
 ghost use Rattle.registry_rules.specs.History.{History};
-ghost use Rattle.registry_store.specs.Promise.{Endures, NotesForeign, is_poisoned, state_of};
+ghost use Rattle.registry_store.specs.Promise.{Endures, NotesForeign, Represents, is_poisoned, state_of};
 ghost use Rattle.shared_log.specs.Calls.{IsKept, LogLines};
+ghost use Rattle.shared_registry.specs.Asks.{AppendsRequest, IsAsked};
 ghost use Rattle.shared_registry.specs.Lines.{fault_in};
 ghost use Rattle.shared_registry.specs.Follows.{Follows, HasActed, IsAnswered, IsLeft};
 
@@ -27,6 +28,7 @@ fn try_to_act<S: Alter, L: Log>(
         → IfOk result (HasActed L.Log lines cursor.old registry.new cursor.new h request.now) }
     ensures err { (lines : L → LogLines) → IsKept L.Log lines → (h : History) → Follows L.Log lines registry.old cursor.old h → HasCleanDisk (state_of registry.new)
         → IfErr result (IsLeft L.Log lines cursor.old registry.new cursor.new h) }
+    ensures asks { (h : History) → Represents registry.old h → HasCleanDisk (state_of registry.new) → IsAsked L.Log (AppendsRequest request.now) cursor.old.log cursor.new.log }
     ensures notes { NotesForeign registry.old registry.new (fault_in result) }
     ensures endures { Endures (state_of registry.old) (state_of registry.new) }
     ensures same_place { IfOk result (λ reply. reply ≡ None → cursor.new.next ≡ cursor.old.next) }
@@ -60,6 +62,9 @@ pub fn act<S: Alter, L: Log>(
         → IfOk result (IsAnswered L.Log lines cursor.old registry.new cursor.new h request.now) }
     ensures err { (lines : L → LogLines) → IsKept L.Log lines → (h : History) → Follows L.Log lines registry.old cursor.old h → HasCleanDisk (state_of registry.new)
         → IfErr result (IsLeft L.Log lines cursor.old registry.new cursor.new h) }
+    // No other line is appended than that of the request, with some reply.
+    ensures asks { (lines : L → LogLines) → IsKept L.Log lines → (h : History) → Follows L.Log lines registry.old cursor.old h → HasCleanDisk (state_of registry.new)
+        → IsAsked L.Log (AppendsRequest request.now) cursor.old.log cursor.new.log }
     ensures notes { NotesForeign registry.old registry.new (fault_in result) }
     ensures endures { Endures (state_of registry.old) (state_of registry.new) }
 {

@@ -5,6 +5,7 @@ ghost use Rattle.sqlite.specs.State.{HasCleanDisk};
 ghost use Rattle.registry_rules.specs.History.{History};
 ghost use Rattle.registry_store.specs.Promise.{Endures, NotesForeign, Represents, is_poisoned, state_of};
 ghost use Rattle.shared_log.specs.Calls.{IsKept, LogLines};
+ghost use Rattle.shared_registry.specs.Asks.{AppendsNothing, IsAsked};
 ghost use Rattle.shared_registry.specs.Lines.{IsStoppedIn, LeadsToLines, fault_in};
 ghost use Rattle.shared_registry.specs.Follows.{Follows, HasFollowed, HasFollowedPage, IsLeft};
 
@@ -57,6 +58,7 @@ fn read_and_follow<S: Alter, L: Log>(
         → IfErr result (IsLeft L.Log lines cursor.old registry.new cursor.new h) }
     ensures notes { NotesForeign registry.old registry.new (fault_in result) }
     ensures endures { Endures (state_of registry.old) (state_of registry.new) }
+    ensures asks { IsAsked L.Log AppendsNothing cursor.old.log cursor.new.log }
     ensures passes { IfOk result (λ more. (cursor.old.next ≤ cursor.new.next) × (more ≡ true → cursor.old.next < cursor.new.next)) }
     ensures small { OnOk result (cursor.new.next < 2 ^ 32) }
 {
@@ -79,7 +81,7 @@ fn read_and_follow<S: Alter, L: Log>(
 }
 
 /// Acts on all lines of the log that the registry has not acted on. After it, the registry has the
-/// history of the whole log, as it was at some instant of the call.
+/// history of the whole log, as it was at some instant of the call. Appends nothing.
 ///
 /// # Errors
 ///
@@ -97,6 +99,7 @@ pub fn follow<S: Alter, L: Log>(
         → OnOk result (HasFollowed L.Log lines cursor.old registry.new cursor.new h) }
     ensures err { (lines : L → LogLines) → IsKept L.Log lines → (h : History) → Follows L.Log lines registry.old cursor.old h → HasCleanDisk (state_of registry.new)
         → IfErr result (IsLeft L.Log lines cursor.old registry.new cursor.new h) }
+    ensures asks { IsAsked L.Log AppendsNothing cursor.old.log cursor.new.log }
     ensures notes { NotesForeign registry.old registry.new (fault_in result) }
     ensures endures { Endures (state_of registry.old) (state_of registry.new) }
 {

@@ -5,9 +5,10 @@ ghost use Rattle.sqlite.specs.State.{HasCleanDisk};
 ghost use Rattle.registry_rules.specs.History.{History};
 ghost use Rattle.registry_laws.specs.Machines.{HasValidFields};
 ghost use Rattle.registry_laws.specs.Records.{record_of};
-ghost use Rattle.registry_store.specs.Promise.{NotesForeign, Represents, state_of};
+ghost use Rattle.registry_store.specs.Promise.{NotesForeign, Represents, is_poisoned, state_of};
 ghost use Rattle.registry_store.specs.Queries.{IsUntouched};
 ghost use Rattle.shared_log.specs.Calls.{Grows, IsKept, LogLines};
+ghost use Rattle.shared_registry.specs.Asks.{AppendsLines, AppendsNothing, AppendsRecord, IsAsked, IsAskedFor};
 ghost use Rattle.shared_registry.specs.Lines.{fault_in, fault_of};
 ghost use Rattle.shared_registry.specs.Cursors.{most_lines};
 ghost use Rattle.shared_registry.specs.Follows.{Follows};
@@ -16,7 +17,7 @@ ghost use Rattle.shared_registry.specs.Records.{HasPassed, IsOtherPage, IsUnshar
 use crate::cursor::{AppendFault, Cursor};
 use crate::record::record_part;
 use crate::stop::ShareStop;
-use registry_store::Registry;
+use registry_store::{Fault, Registry};
 use shared_log::{Line, Lines, Log, LogFault};
 use sqlite::Alter;
 use std::alloc::Global;
@@ -103,6 +104,8 @@ fn compare_part<S: Alter, L: Log>(
     ensures err { (lines : L → LogLines) → IsKept L.Log lines → (h : History) → Represents registry.old h → HasValidFields h → HasPassed lines cursor.old h → HasCleanDisk (state_of registry.new)
         → IfErr result (IsUnshared L.Log lines h cursor.old.log cursor.new.log) }
     ensures untouched { IsUntouched registry.old registry.new }
+    ensures asks { IsAsked L.Log AppendsNothing cursor.old.log cursor.new.log }
+    ensures when_poisoned { is_poisoned registry.old ≡ true → result ≡ Err (ShareStop.Registry Fault.Poisoned) }
     ensures notes { NotesForeign registry.old registry.new (fault_in result) }
     ensures passes { IfOk result (λ more. more ≡ true → cursor.old.next < cursor.new.next) }
     ensures small { OnOk result (cursor.new.next < 2 ^ 32) }
@@ -137,6 +140,8 @@ fn compare<S: Alter, L: Log>(
     ensures err { (lines : L → LogLines) → IsKept L.Log lines → (h : History) → Represents registry.old h → HasValidFields h → HasPassed lines cursor.old h → HasCleanDisk (state_of registry.new)
         → IfErr result (IsUnshared L.Log lines h cursor.old.log cursor.new.log) }
     ensures untouched { IsUntouched registry.old registry.new }
+    ensures asks { IsAsked L.Log AppendsNothing cursor.old.log cursor.new.log }
+    ensures when_poisoned { is_poisoned registry.old ≡ true → result ≡ Err (ShareStop.Registry Fault.Poisoned) }
     ensures notes { NotesForeign registry.old registry.new (fault_in result) }
 {
     loop {
@@ -155,6 +160,7 @@ fn append_lines<L: Log>(cursor: &mut Cursor<L>, lines: &[Line]) -> Result<(), Sh
     ensures err { (log : L → LogLines) → IsKept L.Log log → (h : History) → (rest : LogLines) → drop cursor.old.next (record_of h) ≡ lines.now ++ rest → HasPassed log cursor.old h
         → IfErr result (IsUnshared L.Log log h cursor.old.log cursor.new.log) }
     ensures kind { IfErr result (λ stop. fault_of stop ≡ None) }
+    ensures asks { IsAsked L.Log (AppendsLines lines.now cursor.old.next) cursor.old.log cursor.new.log }
     ensures never_ahead { result ≢ Err ShareStop.Ahead }
     ensures passes { OnOk result (cursor.new.next ≡ cursor.old.next + length lines.now) }
     ensures small { OnOk result (cursor.new.next < 2 ^ 32) }
@@ -184,6 +190,8 @@ fn append_part<S: Alter, L: Log>(
     ensures err { (lines : L → LogLines) → IsKept L.Log lines → (h : History) → Represents registry.old h → HasValidFields h → HasPassed lines cursor.old h → HasCleanDisk (state_of registry.new)
         → IfErr result (IsUnshared L.Log lines h cursor.old.log cursor.new.log) }
     ensures untouched { IsUntouched registry.old registry.new }
+    ensures asks { (h : History) → Represents registry.old h → HasValidFields h → HasCleanDisk (state_of registry.new) → IsAsked L.Log (AppendsRecord h) cursor.old.log cursor.new.log }
+    ensures when_poisoned { is_poisoned registry.old ≡ true → result ≡ Err (ShareStop.Registry Fault.Poisoned) }
     ensures notes { NotesForeign registry.old registry.new (fault_in result) }
     ensures never_ahead { result ≢ Err ShareStop.Ahead }
     ensures passes { IfOk result (λ more. more ≡ true → cursor.old.next < cursor.new.next) }
@@ -212,6 +220,8 @@ fn append_record<S: Alter, L: Log>(
     ensures err { (lines : L → LogLines) → IsKept L.Log lines → (h : History) → Represents registry.old h → HasValidFields h → HasPassed lines cursor.old h → HasCleanDisk (state_of registry.new)
         → IfErr result (IsUnshared L.Log lines h cursor.old.log cursor.new.log) }
     ensures untouched { IsUntouched registry.old registry.new }
+    ensures asks { (h : History) → Represents registry.old h → HasValidFields h → HasCleanDisk (state_of registry.new) → IsAsked L.Log (AppendsRecord h) cursor.old.log cursor.new.log }
+    ensures when_poisoned { is_poisoned registry.old ≡ true → result ≡ Err (ShareStop.Registry Fault.Poisoned) }
     ensures notes { NotesForeign registry.old registry.new (fault_in result) }
     ensures never_ahead { result ≢ Err ShareStop.Ahead }
 {
@@ -225,13 +235,13 @@ fn append_record<S: Alter, L: Log>(
 }
 
 /// Takes up a log that begins with the record of the registry: compares them line by line. Nothing is
-/// committed. Returns the place behind the record.
+/// committed or appended. Returns the place behind the record.
 ///
 /// # Errors
 ///
 /// `OtherRecord` at the first line that differs, and `Ahead` if the log ends before the record does.
-/// `Log` if a call of the log got no answer. `Registry` after a fault of the registry. `Full` if the
-/// record has more lines than are counted. `NoMemory` if out of memory.
+/// `Log` if a call of the log got no answer. `Registry` after a fault of the registry, or if it is
+/// poisoned. `Full` if the record has more lines than are counted. `NoMemory` if out of memory.
 pub fn join<S: Alter, L: Log>(
     alloc: Global,
     registry: &mut Registry<S>,
@@ -242,6 +252,8 @@ pub fn join<S: Alter, L: Log>(
     ensures err { (lines : L → LogLines) → IsKept L.Log lines → (h : History) → Represents registry.old h → HasValidFields h → HasCleanDisk (state_of registry.new)
         → IfErr result (λ e. IsUnshared L.Log lines h log e.1 e.0) }
     ensures untouched { IsUntouched registry.old registry.new }
+    ensures asks { IsAskedFor L.Log AppendsNothing log result }
+    ensures when_poisoned { is_poisoned registry.old ≡ true → stop_in result ≡ Err (ShareStop.Registry Fault.Poisoned) }
     ensures notes { NotesForeign registry.old registry.new (fault_in (stop_in result)) }
 {
     let mut cursor = Cursor {
@@ -272,6 +284,9 @@ pub fn share<S: Alter, L: Log>(
     ensures err { (lines : L → LogLines) → IsKept L.Log lines → (h : History) → Represents registry.old h → HasValidFields h → HasCleanDisk (state_of registry.new)
         → IfErr result (λ e. IsUnshared L.Log lines h log e.1 e.0) }
     ensures untouched { IsUntouched registry.old registry.new }
+    // No other line is appended than those of the record, each under its number.
+    ensures asks { (h : History) → Represents registry.old h → HasValidFields h → HasCleanDisk (state_of registry.new) → IsAskedFor L.Log (AppendsRecord h) log result }
+    ensures when_poisoned { is_poisoned registry.old ≡ true → stop_in result ≡ Err (ShareStop.Registry Fault.Poisoned) }
     ensures notes { NotesForeign registry.old registry.new (fault_in (stop_in result)) }
     ensures never_ahead { IfErr result (λ e. e.0 ≢ ShareStop.Ahead) }
 {

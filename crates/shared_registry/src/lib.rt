@@ -32,9 +32,14 @@
 //! # Taking up a log
 //!
 //! [`join`] compares the record of a registry with the log, line by line, and [`share`] puts it into
-//! the log. After both the registry follows the log. If not, they say at which line the log has
-//! another record, that it ends before the record does, or which call failed (`IsUnshared`). Neither
-//! commits anything (`IsUntouched`).
+//! the log. After both the registry follows the log. If not, they say which is the first line at which
+//! the log has another record (`IsApart`), that it ends before the record does, or which call failed
+//! (`IsUnshared`). Neither commits anything (`IsUntouched`).
+//!
+//! # What is appended
+//!
+//! A call appends no other line (`IsAsked`) than that of its request ([`act`]) or those of the record,
+//! each under its number ([`share`]). [`follow`] and [`join`] append nothing.
 //!
 //! # Premises
 //!

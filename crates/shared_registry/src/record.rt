@@ -1,11 +1,11 @@
 //! The lines of the record of a registry.
 
-ghost use Rattle.std.specs.Prelude.{◌≡◌, ◌≢◌, ◌∷◌, [], map, Err, IfErr, IfOk};
+ghost use Rattle.std.specs.Prelude.{◌≡◌, ◌≢◌, ◌∷◌, [], true, map, Err, IfErr, IfOk};
 ghost use Rattle.sqlite.specs.State.{HasCleanDisk};
 ghost use Rattle.registry_rules.specs.History.{History};
 ghost use Rattle.registry_laws.specs.Machines.{HasValidFields};
 ghost use Rattle.registry_laws.specs.Records.{record_of};
-ghost use Rattle.registry_store.specs.Promise.{NotesForeign, Represents, state_of};
+ghost use Rattle.registry_store.specs.Promise.{NotesForeign, Represents, is_poisoned, state_of};
 ghost use Rattle.registry_store.specs.Queries.{IsUntouched};
 ghost use Rattle.registry_wire.specs.Record.{accepted_line, founding_line};
 ghost use Rattle.shared_registry.specs.Lines.{fault_in};
@@ -13,7 +13,7 @@ ghost use Rattle.shared_registry.specs.Records.{IsNextPart, IsOfReading};
 
 use crate::stop::ShareStop;
 use registry_rules::{Accepted, Founding};
-use registry_store::Registry;
+use registry_store::{Fault, Registry};
 use registry_wire::{accepted_line, founding_line};
 use shared_log::{Line, Lines};
 use sqlite::Alter;
@@ -50,6 +50,7 @@ fn first_line<S: Alter>(alloc: Global, registry: &mut Registry<S>) -> Result<Lin
     ensures ok { (h : History) → Represents registry.old h → HasCleanDisk (state_of registry.new) → IfOk result (λ lines. lines ≡ founding_line h.founding ∷ []) }
     ensures err { (h : History) → Represents registry.old h → HasCleanDisk (state_of registry.new) → IfErr result IsOfReading }
     ensures never_ahead { result ≢ Err ShareStop.Ahead }
+    ensures when_poisoned { is_poisoned registry.old ≡ true → result ≡ Err (ShareStop.Registry Fault.Poisoned) }
     ensures untouched { IsUntouched registry.old registry.new }
     ensures notes { NotesForeign registry.old registry.new (fault_in result) }
 {
@@ -73,6 +74,7 @@ pub(crate) fn record_part<S: Alter>(
     ensures ok { (h : History) → Represents registry.old h → HasValidFields h → HasCleanDisk (state_of registry.new) → IfOk result (λ part. IsNextPart (record_of h) n part) }
     ensures err { (h : History) → Represents registry.old h → HasCleanDisk (state_of registry.new) → IfErr result IsOfReading }
     ensures never_ahead { result ≢ Err ShareStop.Ahead }
+    ensures when_poisoned { is_poisoned registry.old ≡ true → result ≡ Err (ShareStop.Registry Fault.Poisoned) }
     ensures untouched { IsUntouched registry.old registry.new }
     ensures notes { NotesForeign registry.old registry.new (fault_in result) }
 {

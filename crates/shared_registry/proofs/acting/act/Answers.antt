@@ -3,11 +3,14 @@ use Rattle.registry_store.specs.Promise.{state_of}
 use Rattle.registry_store.proofs.IsQueryLemmas.{notes_then}
 use Rattle.shared_registry.proofs.FollowLemmas.{after_other, answered, followed_again, left_after, left_later, shows_line}
 use Rattle.shared_registry.proofs.LineLemmas.{clean_first, endures_then}
+use Rattle.shared_registry.specs.Asks.{AppendsRequest}
+use Rattle.shared_registry.proofs.AskLemmas.{asked_anyway, asked_then}
 use Rattle.shared_registry.proofs.acting.act.Goals as goal
 
 pub loop-reply-init : goal.loop-reply-init
 loop-reply-init g c = record {
   so_far = λ lines kept h follows clean. c.in_default.ensures.ok lines kept h follows clean;
+  asks = λ lines kept h follows clean. asked_anyway g.L.Log (AppendsRequest c.args.request.now) c.args.cursor.now.log c.follow.new.cursor.log c.in_default.ensures.asks;
   notes = c.in_default.ensures.notes;
   endures = c.follow.ensures.endures;
 }
@@ -51,8 +54,48 @@ loop-reply-preserved g c = record {
       (rw c.in-Ok-None.field-0-is at (c.in-Ok-None.ensures.ok lines kept so_far.now so_far.follows middle)) in
       followed_again g.L.Log lines c.args.cursor.now c.try_to_act.new.registry c.try_to_act.new.cursor c.follow-in-loop-reply.new.registry c.follow-in-loop-reply.new.cursor h gone
       (c.in_default-follow.ensures.ok lines kept gone.now gone.follows clean);
+  asks = λ lines kept h follows clean.
+      let middle = clean_first (state_of c.try_to_act.new.registry) (state_of c.follow-in-loop-reply.new.registry) c.in_default-follow.ensures.endures clean in
+      let first = clean_first (state_of c.loop-reply.registry) (state_of c.try_to_act.new.registry) c.in-Ok-None.ensures.endures middle in
+      let so_far = c.loop-reply.invariant.so_far lines kept h follows first in
+      let acted = asked_then g.L.Log (AppendsRequest c.args.request.now) c.args.cursor.now.log c.loop-reply.cursor.log c.try_to_act.new.cursor.log (c.loop-reply.invariant.asks lines kept h follows first) (c.in-Ok-None.ensures.asks so_far.now so_far.follows.represents middle) in
+      asked_then g.L.Log (AppendsRequest c.args.request.now) c.args.cursor.now.log c.try_to_act.new.cursor.log c.follow-in-loop-reply.new.cursor.log acted
+      (asked_anyway g.L.Log (AppendsRequest c.args.request.now) c.try_to_act.new.cursor.log c.follow-in-loop-reply.new.cursor.log c.in_default-follow.ensures.asks);
   notes = notes_then c.args.registry.now c.try_to_act.new.registry c.follow-in-loop-reply.new.registry None (notes_then c.args.registry.now c.loop-reply.registry c.try_to_act.new.registry None c.loop-reply.invariant.notes c.in-Ok-None.ensures.notes)
       c.in_default-follow.ensures.notes;
   endures = endures_then (state_of c.args.registry.now) (state_of c.try_to_act.new.registry) (state_of c.follow-in-loop-reply.new.registry)
       (endures_then (state_of c.args.registry.now) (state_of c.loop-reply.registry) (state_of c.try_to_act.new.registry) c.loop-reply.invariant.endures c.in-Ok-None.ensures.endures) c.in_default-follow.ensures.endures;
 }
+
+pub returns-in-Ok-Some-clause-asks : goal.returns-in-Ok-Some-clause-asks
+returns-in-Ok-Some-clause-asks g c lines kept h follows clean =
+    let first = clean_first (state_of c.loop-reply.registry) (state_of c.try_to_act.new.registry) c.in-Ok-Some.ensures.endures clean in
+    let so_far = c.loop-reply.invariant.so_far lines kept h follows first in
+    asked_then g.L.Log (AppendsRequest c.args.request.now) c.args.cursor.now.log c.loop-reply.cursor.log c.try_to_act.new.cursor.log (c.loop-reply.invariant.asks lines kept h follows first) (c.in-Ok-Some.ensures.asks so_far.now so_far.follows.represents clean)
+
+pub returns-in-Err-try_to_act-clause-asks : goal.returns-in-Err-try_to_act-clause-asks
+returns-in-Err-try_to_act-clause-asks g c lines kept h follows clean =
+    let first = clean_first (state_of c.loop-reply.registry) (state_of c.try_to_act.new.registry) c.in-Err-try_to_act.ensures.endures clean in
+    let so_far = c.loop-reply.invariant.so_far lines kept h follows first in
+    asked_then g.L.Log (AppendsRequest c.args.request.now) c.args.cursor.now.log c.loop-reply.cursor.log c.try_to_act.new.cursor.log (c.loop-reply.invariant.asks lines kept h follows first) (c.in-Err-try_to_act.ensures.asks so_far.now so_far.follows.represents clean)
+
+pub returns-in-Err-follow-clause-asks : goal.returns-in-Err-follow-clause-asks
+returns-in-Err-follow-clause-asks g c lines kept h follows clean =
+    let middle = clean_first (state_of c.try_to_act.new.registry) (state_of c.follow-in-loop-reply.new.registry) c.in-Err-follow.ensures.endures clean in
+    let first = clean_first (state_of c.loop-reply.registry) (state_of c.try_to_act.new.registry) c.in-Ok-None.ensures.endures middle in
+    let so_far = c.loop-reply.invariant.so_far lines kept h follows first in
+    let acted = asked_then g.L.Log (AppendsRequest c.args.request.now) c.args.cursor.now.log c.loop-reply.cursor.log c.try_to_act.new.cursor.log (c.loop-reply.invariant.asks lines kept h follows first) (c.in-Ok-None.ensures.asks so_far.now so_far.follows.represents middle) in
+    asked_then g.L.Log (AppendsRequest c.args.request.now) c.args.cursor.now.log c.try_to_act.new.cursor.log c.follow-in-loop-reply.new.cursor.log acted
+    (asked_anyway g.L.Log (AppendsRequest c.args.request.now) c.try_to_act.new.cursor.log c.follow-in-loop-reply.new.cursor.log c.in-Err-follow.ensures.asks)
+
+pub returns-then-cursor-before-clause-asks : goal.returns-then-cursor-before-clause-asks
+returns-then-cursor-before-clause-asks g c lines kept h follows clean =
+    let middle = clean_first (state_of c.try_to_act.new.registry) (state_of c.follow-in-loop-reply.new.registry) c.in_default-follow.ensures.endures clean in
+    let first = clean_first (state_of c.loop-reply.registry) (state_of c.try_to_act.new.registry) c.in-Ok-None.ensures.endures middle in
+    let so_far = c.loop-reply.invariant.so_far lines kept h follows first in
+    let acted = asked_then g.L.Log (AppendsRequest c.args.request.now) c.args.cursor.now.log c.loop-reply.cursor.log c.try_to_act.new.cursor.log (c.loop-reply.invariant.asks lines kept h follows first) (c.in-Ok-None.ensures.asks so_far.now so_far.follows.represents middle) in
+    asked_then g.L.Log (AppendsRequest c.args.request.now) c.args.cursor.now.log c.try_to_act.new.cursor.log c.follow-in-loop-reply.new.cursor.log acted
+    (asked_anyway g.L.Log (AppendsRequest c.args.request.now) c.try_to_act.new.cursor.log c.follow-in-loop-reply.new.cursor.log c.in_default-follow.ensures.asks)
+
+pub returns-in-Err-clause-asks : goal.returns-in-Err-clause-asks
+returns-in-Err-clause-asks g c lines kept h follows clean = asked_anyway g.L.Log (AppendsRequest c.args.request.now) c.args.cursor.now.log c.follow.new.cursor.log c.in-Err.ensures.asks

@@ -1,5 +1,7 @@
 use Rattle.std.proofs.Common.{◌∙◌, sym, arith, refl}
 use Rattle.shared_registry.proofs.FollowLemmas.{empty_page, is_read, no_lines, page_followed, page_stopped, some_lines}
+use Rattle.shared_registry.specs.Asks.{AppendsNothing}
+use Rattle.shared_registry.proofs.AskLemmas.{asked_in_vain, asked_read}
 use Rattle.shared_registry.proofs.following.read_and_follow.Goals as goal
 use Rattle.shared_registry.proofs.following.read_and_follow.Goals.{else-page-via-then-page+else-is_empty, else-page-via-else-page}
 
@@ -35,3 +37,15 @@ returns-clause-err g c lines kept h follows clean =
     let page = c.in-Ok.page in
     let read = is_read (lines start.log) (lines c.page.new.self) h start.next page follows.of_machine.begins follows.next (kept.reads start.log c.page.new.self start.next page c.in-Ok.ensures.reads) in
     page_stopped g.L.Log lines c.args.registry.now start c.act_on_lines.new.registry end h page follows read c.in-Err-act_on_lines.stop (rw c.as_slice.ensures at (c.in-Err-act_on_lines.ensures.stopped h follows.represents clean))
+
+pub returns-then-is_empty-clause-asks : goal.returns-then-is_empty-clause-asks
+returns-then-is_empty-clause-asks g c = asked_read g.L.Log AppendsNothing c.args.cursor.now.log c.page.new.self c.args.cursor.now.next c.in-Ok.page c.in-Ok.ensures.reads
+
+pub returns-in-Ok-act_on_lines-clause-asks : goal.returns-in-Ok-act_on_lines-clause-asks
+returns-in-Ok-act_on_lines-clause-asks g c = asked_read g.L.Log AppendsNothing c.args.cursor.now.log c.page.new.self c.args.cursor.now.next c.in-Ok.page c.in-Ok.ensures.reads
+
+pub returns-clause-asks : goal.returns-clause-asks
+returns-clause-asks g c = asked_read g.L.Log AppendsNothing c.args.cursor.now.log c.page.new.self c.args.cursor.now.next c.in-Ok.page c.in-Ok.ensures.reads
+
+pub returns-in-Err-clause-asks : goal.returns-in-Err-clause-asks
+returns-in-Err-clause-asks g c = asked_in_vain g.L.Log AppendsNothing c.args.cursor.now.log c.page.new.self c.in-Err.ensures.failed

@@ -1,6 +1,8 @@
 use Rattle.std.proofs.Common.{◌∙◌, sym}
 use Rattle.shared_registry.proofs.FollowLemmas.{at_instant_grows, not_none}
 use Rattle.shared_registry.proofs.JoinLemmas.{page_other, page_passed}
+use Rattle.shared_registry.specs.Asks.{AppendsNothing}
+use Rattle.shared_registry.proofs.AskLemmas.{asked_in_vain, asked_read}
 use Rattle.shared_registry.proofs.joining.compare_part.Goals as goal
 
 pub returns-in-Ok-compare_page-clause-ok : goal.returns-in-Ok-compare_page-clause-ok
@@ -21,3 +23,12 @@ returns-clause-err g c lines kept h stands valid passed clean =
     let reads = c.in-Ok-page.ensures.reads in
     let at = kept.reads start.log c.page.new.self start.next page reads in
     page_other g.L.Log lines h start c.page.new.self c.in-Ok.ours page passed part (not_none c.in-Ok.ours (sym c.is_empty.ensures ∙ c.if-is_empty.false)) at reads c.in-Err-compare_page.stop c.in-Err-compare_page.ensures.err
+
+pub returns-in-Ok-compare_page-clause-asks : goal.returns-in-Ok-compare_page-clause-asks
+returns-in-Ok-compare_page-clause-asks g c = asked_read g.L.Log AppendsNothing c.args.cursor.now.log c.page.new.self c.args.cursor.now.next c.in-Ok-page.page c.in-Ok-page.ensures.reads
+
+pub returns-clause-asks : goal.returns-clause-asks
+returns-clause-asks g c = asked_read g.L.Log AppendsNothing c.args.cursor.now.log c.page.new.self c.args.cursor.now.next c.in-Ok-page.page c.in-Ok-page.ensures.reads
+
+pub returns-in-Err-page-clause-asks : goal.returns-in-Err-page-clause-asks
+returns-in-Err-page-clause-asks g c = asked_in_vain g.L.Log AppendsNothing c.args.cursor.now.log c.page.new.self c.in-Err-page.ensures.failed

@@ -1,0 +1,51 @@
+-- The calls that are made of a log.
+use Rattle.std.specs.Prelude.{◌≡◌, ◌⊎◌, ◌+◌, ℕ, List, [], ◌∷◌, slice_get, Some, Result, Ok, Err}
+use Rattle.registry_rules.specs.History.{History}
+use Rattle.registry_rules.specs.declared.order.Request.{Request}
+use Rattle.registry_wire.specs.Record.{accepted_line}
+use Rattle.registry_laws.specs.Records.{record_of}
+use Rattle.shared_log.specs.Calls.{LogLines}
+use Rattle.shared_log.specs.declared.answers.AppendAnswer.{AppendAnswer}
+use Rattle.shared_log.specs.declared.answers.PageAnswer.{PageAnswer}
+use Rattle.shared_log.specs.declared.log.Log.{Ghosts}
+use Rattle.shared_registry.specs.declared.cursor.Cursor.{Cursor}
+use Rattle.shared_registry.specs.declared.stop.ShareStop.{ShareStop}
+use Rattle.shared_registry.specs.Cursors.{accepted_as}
+
+-- no line is appended
+abbrev pub AppendsNothing : ℕ → List ℕ → Type 0
+AppendsNothing n line = ⊥
+
+-- only the line of this request is, with some reply
+abbrev pub AppendsRequest : Request → ℕ → List ℕ → Type 0
+AppendsRequest r n line = (text : List ℕ) × (line ≡ accepted_line (accepted_as r text))
+
+-- only these lines are, from this number on
+abbrev pub AppendsLines : LogLines → ℕ → ℕ → List ℕ → Type 0
+AppendsLines these start n line = (i : ℕ) × (n ≡ start + i) × (slice_get these i ≡ Some line)
+
+-- only lines of the record are, each under its number
+abbrev pub AppendsRecord : History → ℕ → List ℕ → Type 0
+AppendsRecord h n line = slice_get (record_of h) n ≡ Some line
+
+module _ {L : Type 0} (l : Ghosts L) (Appends : ℕ → List ℕ → Type 0) where
+  -- One call: a read, an append of such a line, or a call without an answer.
+  abbrev pub IsCall : L → L → Type 0
+  IsCall old new =
+      ((n : ℕ) × (page : PageAnswer) × l.reads old new n page)
+      ⊎ (((n : ℕ) × (line : List ℕ) × (answer : AppendAnswer) × Appends n line × l.appends old new n line answer)
+      ⊎ l.fails old new)
+
+  -- calls one after another, with the states between them
+  abbrev pub AreCalls : L → List L → L → Type 0
+  AreCalls old [] new = new ≡ old
+  AreCalls old (middle ∷ states) new = IsCall old middle × AreCalls middle states new
+
+  -- The log was asked by such calls alone. Since a call that is made may be answered, no other line is to be appended.
+  abbrev pub IsAsked : L → L → Type 0
+  IsAsked old new = (states : List L) × AreCalls old states new
+
+  -- the same of a call that gives the log back
+  abbrev pub IsAskedFor : L → Result (Cursor L) (ShareStop × L) → Type 0
+  IsAskedFor old (Ok cursor) = IsAsked old cursor.log
+  IsAskedFor old (Err left) = IsAsked old left.1
