@@ -1,5 +1,5 @@
 -- A query or an order over a log: the texts that stay cached, and what is left.
-use Rattle.std.proofs.Common.{◌≡◌, ◌≤◌, ◌∙◌, ◌+◌, ◌⊎◌, ℕ, List, [], ◌∷◌, ◌++◌, length, Bool, true, false, Option, inl, inr, refl, sym, ap, subst, arith}
+use Rattle.std.proofs.Common.{◌≡◌, ◌≤◌, ◌∙◌, ◌+◌, ◌⊎◌, ℕ, List, [], ◌∷◌, ◌++◌, length, Bool, true, false, Option, None, inl, inr, refl, sym, ap, subst, arith}
 use Rattle.std.specs.Prelude.{Result, Ok, Err, nat_eq, if◌then◌else◌}
 use Rattle.std.proofs.lemmas.Bool.{eqb-false, eqb-true}
 use Rattle.std.proofs.lemmas.List.{length-append}
@@ -134,7 +134,7 @@ module _ {S : Type 0} {g : Ghosts S} {L : Type 0} (l : LogGhosts L) (lines : L �
   pub refused_answered : (it : Registry S g) (refusal : HttpRefusal) (response : Response) (cache : Cache) → Follows l lines it c h → AreTextsOf h cache → response ≡ refusal_response refusal → Answers l lines c it c h (Err refusal) response cache
   refused_answered it refusal response cache follows of is = record {
     next = h;
-    answer = record { before = h; leads = leads_nowhere h; whole = λ asked. absurd asked; response_is = is; next_is = refl };
+    answer = record { before = h; leads = leads_nowhere h; whole = λ asked. absurd cc; response_is = is; next_is = refl };
     follows = follows;
     texts = cache;
     texts_of = of;

@@ -66,20 +66,24 @@ same_fault (Ok wanted) response stop told = ap fault_behind told.1
 same_fault (Err why) response stop told = ap fault_behind told.1
 
 -- over a poisoned registry
-pub turned_away : (P : Type 0) (founding : ℕ) (bytes : List ℕ) (said : Result Message HttpRefusal) (done : Result Response ShareStop) (response : Response) (stop : Option ShareStop) → Says founding bytes said
-    → IfErr said (λ refusal. IfOk done (λ response. response ≡ refusal_response refusal) × IfErr done (λ stop. stop ≡ stops.NoMemory) × P)
-    → OnOk said ((done ≡ Err (stops.Registry faults.Poisoned)) × P)
-    → IsTold done response stop → IsTurnedAway bytes response stop × P
-turned_away P founding bytes (Ok message) (Ok wanted) response stop says refused away told = let never : Ok wanted ≡ Err (stops.Registry faults.Poisoned) = away.0 in absurd cc
-turned_away P founding bytes (Ok message) (Err why) response stop says refused away told =
+pub turned_away : {S L : Type 0} {g : Ghosts S} (it new : Registry S g) (c c_new : Cursor L) (founding : ℕ) (bytes : List ℕ) (said : Result Message HttpRefusal) (done : Result Response ShareStop) (response : Response) (stop : Option ShareStop)
+    → Says founding bytes said
+    → IfErr said (λ refusal. IfOk done (λ response. response ≡ refusal_response refusal) × IfErr done (λ stop. stop ≡ stops.NoMemory) × (new ≡ it) × (c_new ≡ c))
+    → OnOk said ((done ≡ Err (stops.Registry faults.Poisoned)) × (new ≡ it) × (c_new ≡ c))
+    → IsTold done response stop → IsTurnedAway bytes response stop × (new ≡ it) × (c_new ≡ c)
+turned_away it new c c_new founding bytes (Ok message) (Ok wanted) response stop says refused away told = (let never : Ok wanted ≡ Err (stops.Registry faults.Poisoned) = away.0 in absurd cc)
+turned_away it new c c_new founding bytes (Ok message) (Err why) response stop says refused away told =
+    let both : Err why ≡ Err (stops.Registry faults.Poisoned) = away.0 in
     let same : why ≡ stops.Registry faults.Poisoned = cc in
-    (subst (λ (s : Option ShareStop). IsTurnedAway bytes response s) (sym told.1) (inl same), away.1)
-turned_away P founding bytes (Err refusal) (Ok wanted) response stop says refused away told = (
+    (subst (λ (s : Option ShareStop). IsTurnedAway bytes response s) (sym told.1) (inl same), away.1, away.2)
+turned_away it new c c_new founding bytes (Err refusal) (Ok wanted) response stop says refused away told = (
   subst (λ (s : Option ShareStop). IsTurnedAway bytes response s) (sym told.1)
       (record { founding = founding; refusal = refusal; says = says; written = subst (λ (r : Response). IsInPlaceOf response r) refused.0 told.0 }),
   refused.2,
+  refused.3,
 )
-turned_away P founding bytes (Err refusal) (Err why) response stop says refused away told = (subst (λ (s : Option ShareStop). IsTurnedAway bytes response s) (sym told.1) (inr refused.1), refused.2)
+turned_away it new c c_new founding bytes (Err refusal) (Err why) response stop says refused away told =
+    (subst (λ (s : Option ShareStop). IsTurnedAway bytes response s) (sym told.1) (inr refused.1), refused.2, refused.3)
 
 -- ---- what is served
 

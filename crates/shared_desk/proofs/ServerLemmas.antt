@@ -99,19 +99,18 @@ module _ {S : Type 0} {g : Ghosts S} {L : Type 0} (l : LogGhosts L) (lines : L �
   )
 
   -- what stopped the message passes
-  passed : (visit : Visit) (served : Served) → visit.end ≡ Ok served → (cache : Cache) (stop : ShareStop) → cache ≡ no_texts → IsStopTold visit stop → may_pass stop ≡ true
-      → (later : FollowsLater l lines new c_new h) → ((fault : LogFault) → stop ≡ stops.Log fault → HasFailed l lines c.log c_new.log fault) → EndsBeside l lines c new c_new h visit cache None
-  passed visit served is cache stop none told passes later failed =
-      let it : IsPassedOver l lines c h visit c_new later.0 = record { stop = stop; passes = passes; told = told; leads = later.1; failed = failed } in
-      (later.0, rw is (inr it), later.2, none_are later.0 cache none)
+  passed : (bytes : List ℕ) (response : Response) (served : Served) (cache : Cache) (stop : ShareStop) → cache ≡ no_texts → IsStopTold (served_as bytes response served) stop → may_pass stop ≡ true
+      → (later : FollowsLater l lines new c_new h) → ((fault : LogFault) → stop ≡ stops.Log fault → HasFailed l lines c.log c_new.log fault) → EndsBeside l lines c new c_new h (served_as bytes response served) cache None
+  passed bytes response served cache stop none told passes later failed =
+      (later.0, inr (record { stop = stop; passes = passes; told = told; leads = later.1; failed = failed }), later.2, none_are later.0 cache none)
 
   unanswered : (bytes : List ℕ) (response : Response) (served : Served) (cache : Cache) (stop : ShareStop) → IfOk served.status (λ sent. sent ≡ response.status) → response ≡ unavailable_response (unavailable_for stop) → cache ≡ no_texts
       → IsUnserved l lines c new c_new h bytes stop → EndsBeside l lines c new c_new h (served_as bytes response served) cache (ends_by (Some stop))
   unanswered bytes response served cache (stops.Log fault) sent told none (inl it) =
-      passed (served_as bytes response served) served refl cache (stops.Log fault) none (stop_told bytes response served (stops.Log fault) sent told) refl it.0 (λ other same. let is : fault ≡ other = cc in subst (HasFailed l lines c.log c_new.log) is it.1)
+      passed bytes response served cache (stops.Log fault) none (stop_told bytes response served (stops.Log fault) sent told) refl it.0 (λ other same. let is : fault ≡ other = cc in subst (HasFailed l lines c.log c_new.log) is it.1)
   unanswered bytes response served cache (stops.Log fault) sent told none (inr it) = let never : stops.Log fault ≡ stops.Registry faults.Store = it.3 in absurd cc
   unanswered bytes response served cache stops.NoMemory sent told none (inl it) =
-      passed (served_as bytes response served) served refl cache stops.NoMemory none (stop_told bytes response served stops.NoMemory sent told) refl it (λ other never. absurd cc)
+      passed bytes response served cache stops.NoMemory none (stop_told bytes response served stops.NoMemory sent told) refl it (λ other never. absurd cc)
   unanswered bytes response served cache stops.NoMemory sent told none (inr it) = let never : stops.NoMemory ≡ stops.Registry faults.Store = it.3 in absurd cc
   unanswered bytes response served cache (stops.Registry fault) sent told none it = it
   unanswered bytes response served cache (stops.OtherRecord n) sent told none it = it
@@ -149,7 +148,7 @@ module _ {S C R W : Type 0} {g : Ghosts S} {L : Type 0} (l : LogGhosts L) (opens
         record { opened = opened; reader = reader; reader_new = reader_new; writer = writer; writer_new = writer_new; opens_with = opens_with; gives = gives; read = came; written = (said.0, refl, said.1); status = status; status_is = status_is; closes_with = closes_with },
         told_at bytes said.0 turn.served turn.stop said.1.1 said.3,
         λ lines kept h follows clean of. served_visit l lines c last c_new h bytes said.0 turn.served cache_new turn.stop said.1.1 said.3 (said.4 lines kept h follows clean of),
-        λ poisoned. let away = said.5 poisoned in (turned_at bytes said.0 turn.served turn.stop said.1.1 said.3 away.0, away.1),
+        λ poisoned. let away = said.5 poisoned in (turned_at bytes said.0 turn.served turn.stop said.1.1 said.3 away.0, away.1, away.2),
       )
   visit_of old opened new reader reader_new writer writer_new it last c c_new cache cache_new (Err broken) status stop bytes opens_with closes_with status_is stop_is gives said failed came =
       rw stop_is (
@@ -188,3 +187,51 @@ module _ {S : Type 0} {g : Ghosts S} {L : Type 0} (l : LogGhosts L) (lines : L �
 
 pub all_more : (P : Visit → Type 0) (visits : List Visit) (visit : Visit) → All P visits → P visit → All P (visits ++ visit ∷ [])
 all_more P visits visit all one = All-append P visits (visit ∷ []) all (All-cons P visit [] one (All-nil P))
+
+module _ {S C R W : Type 0} {g : Ghosts S} {L : Type 0} (l : LogGhosts L) (opens : C → C → R → W → Type 0) (closes : C → C → R → W → Option ℕ → Type 0) (remaining : R → Option (List ℕ)) (reads_failed : R → ℕ) (contents : W → Option (List ℕ)) (writes_failed : W → ℕ) (fails : C → C → Type 0) where
+  abbrev Ends : C → C → Registry S g → Registry S g → Cursor L → Cursor L → ℕ → Result (Unit {0}) SharedStop → Type 0
+  Ends old new first last c c_new count result = (visits : List Visit) × (middle : C)
+      × HaveVisited opens closes remaining reads_failed contents writes_failed old middle visits
+      × EndsConnections fails middle new result
+      × (length visits ≤ count) × OnOk result (length visits ≡ count)
+      × IsToldLast visits (stop_in result)
+      × ((lines : L → LogLines) → IsKept l lines → (h : History) → Follows l lines first c h → HasCleanDisk (state_of last) → EndsOver l lines c last c_new h visits (stop_in result))
+      × (is_poisoned first ≡ true → All IsTurnedAwayAt visits × (last ≡ first) × (c_new ≡ c))
+
+  -- a server ends when no more connections come, or at a stop
+  pub ended_by : (old middle new : C) (first mid last : Registry S g) (c c_mid c_new : Cursor L) (cache cache_new : Cache) (count : ℕ) (visits : List Visit) (stop : SharedStop)
+      → HaveVisited opens closes remaining reads_failed contents writes_failed old middle visits → length visits < count
+      → (HasCleanDisk (state_of last) → HasCleanDisk (state_of mid))
+      → ((lines : L → LogLines) → IsKept l lines → (h : History) → Follows l lines first c h → HasCleanDisk (state_of mid) → FollowsBeside l lines c h mid c_mid cache visits)
+      → (is_poisoned first ≡ true → All IsTurnedAwayAt visits × (mid ≡ first) × (c_mid ≡ c))
+      → IfVisited (Err stop) (Came l opens closes remaining reads_failed contents writes_failed middle new mid last c_mid c_new cache cache_new (stop_in (Err stop)))
+      → (stop ≡ ends.Connections → fails middle new × (last ≡ mid) × (c_new ≡ c_mid)) → Ends old new first last c c_new count (Err stop)
+  ended_by old middle new first mid last c c_mid c_new cache cache_new count visits ends.Connections before less early so_far turned came none =
+      let ended = none refl in (
+        visits,
+        middle,
+        before,
+        ended.0,
+        omega (arith, less),
+        tt,
+        tt,
+        λ lines kept h follows clean. rw (ended.1, ended.2) (ends_after l lines c h mid c_mid cache visits (so_far lines kept h follows (early clean))),
+        λ poisoned. let away = turned poisoned in (away.0, ended.1 ∙ away.1, ended.2 ∙ away.2),
+      )
+  ended_by old middle new first mid last c c_mid c_new cache cache_new count visits (ends.Share stop) before less early so_far turned came none =
+      let longer = length_more visits came.0 (length visits) refl in (
+        visits ++ came.0 ∷ [],
+        new,
+        visited_more opens closes remaining reads_failed contents writes_failed old middle new visits came.0 before came.1,
+        refl,
+        omega (arith, less, longer),
+        tt,
+        (visits, came.0, refl, came.2),
+        λ lines kept h follows clean.
+            let before = so_far lines kept h follows (early clean) in
+            stopped_after l lines c h mid last c_mid c_new cache cache_new visits came.0 stop before (came.3 lines kept before.0 before.2 clean before.3),
+        λ poisoned.
+            let away = turned poisoned in
+            let one = came.4 (subst (λ (r : Registry S g). is_poisoned r ≡ true) (sym away.1) poisoned) in
+            (all_more IsTurnedAwayAt visits came.0 away.0 one.0, one.1 ∙ away.1, one.2 ∙ away.2),
+      )

@@ -1,7 +1,7 @@
 -- What serving one message over a shared log writes, and what the registry then has.
 --
 -- The response is the one that is written, and the stop is why it is not that of the message, if it is not.
-use Rattle.std.specs.Prelude.{◌≡◌, ◌×◌, ◌⊎◌, ⊤, ℕ, List, Option, None, Some, Result, Ok, Err}
+use Rattle.std.specs.Prelude.{◌≡◌, ◌⊎◌, ⊤, ℕ, List, Option, None, Some, Result, Ok, Err}
 use Rattle.sqlite.specs.Store.{Ghosts}
 use Rattle.byte_streams.specs.declared.streams.Broken.{Broken}
 use Rattle.registry_rules.specs.History.{History}

@@ -43,6 +43,8 @@ fn follow_first<S: Alter, L: Log>(
     ensures when_poisoned { is_poisoned registry.old ≡ true → (result ≡ Err (ShareStop.Registry Fault.Poisoned)) × (registry.new ≡ registry.old) × (cursor.new ≡ cursor.old) }
     ensures ok { (lines : L → LogLines) → IsKept L.Log lines → (h : History) → Follows L.Log lines registry.old cursor.old h → HasCleanDisk (state_of registry.new) → AreTextsOf h cache.old
         → OnOk result ((followed : HasFollowed L.Log lines cursor.old registry.new cursor.new h) × AreTextsOf followed.now cache.new) }
+    ensures followed { (lines : L → LogLines) → IsKept L.Log lines → (h : History) → Follows L.Log lines registry.old cursor.old h → HasCleanDisk (state_of registry.new)
+        → OnOk result (HasFollowed L.Log lines cursor.old registry.new cursor.new h) }
     ensures err { (lines : L → LogLines) → IsKept L.Log lines → (h : History) → Follows L.Log lines registry.old cursor.old h → HasCleanDisk (state_of registry.new)
         → IfErr result (IsLeft L.Log lines cursor.old registry.new cursor.new h) }
     ensures notes { NotesForeign registry.old registry.new (fault_in result) }
@@ -113,6 +115,28 @@ fn act_on_order<S: Alter, L: Log>(
     }
 }
 
+/// Returns the response to a query, or acts on an order.
+fn answer_message<S: Alter, L: Log>(
+    alloc: Global,
+    registry: &mut Registry<S>,
+    cursor: &mut Cursor<L>,
+    cache: &mut Cache,
+    message: &Message,
+) -> Result<Response, ShareStop>
+    ensures when_poisoned { is_poisoned registry.old ≡ true → (result ≡ Err (ShareStop.Registry Fault.Poisoned)) × (registry.new ≡ registry.old) × (cursor.new ≡ cursor.old) }
+    ensures ok { (lines : L → LogLines) → IsKept L.Log lines → (h : History) → Follows L.Log lines registry.old cursor.old h → HasCleanDisk (state_of registry.new) → AreTextsOf h cache.old
+        → IfOk result (λ response. Answers L.Log lines cursor.old registry.new cursor.new h (Ok message.now) response cache.new) }
+    ensures err { (lines : L → LogLines) → IsKept L.Log lines → (h : History) → Follows L.Log lines registry.old cursor.old h → HasCleanDisk (state_of registry.new)
+        → IfErr result (IsUnanswered L.Log lines cursor.old registry.new cursor.new h (Ok message.now)) }
+    ensures notes { NotesForeign registry.old registry.new (fault_in result) }
+    ensures endures { Endures (state_of registry.old) (state_of registry.new) }
+{
+    match message {
+        Message::Query(query) => answer_after_following(alloc, registry, cursor, cache, query),
+        Message::Request(request) => act_on_order(alloc, registry, cursor, cache, request),
+    }
+}
+
 /// Returns the response to a message that is refused by itself.
 fn refuse(alloc: Global, refusal: HttpRefusal) -> Result<Response, ShareStop>
     ensures ok { IfOk result (λ response. response ≡ refusal_response refusal) }
@@ -145,10 +169,7 @@ pub(crate) fn answer<S: Alter, L: Log>(
     ensures endures { Endures (state_of registry.old) (state_of registry.new) }
 {
     match said {
-        Ok(Message::Query(query)) => {
-            answer_after_following(alloc, registry, cursor, cache, query)
-        }
-        Ok(Message::Request(request)) => act_on_order(alloc, registry, cursor, cache, request),
+        Ok(message) => answer_message(alloc, registry, cursor, cache, message),
         Err(refusal) => refuse(alloc, *refusal),
     }
 }
