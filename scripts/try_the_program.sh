@@ -35,7 +35,6 @@ beside=(
     run_page_examples.py
     try_the_package.py
     ask_etcd.py
-    serve_over_a_log.py
 )
 # These measure how long a server, nginx or a browser takes, or start machines of their own, so each has the machine alone.
 alone=(

@@ -20,7 +20,6 @@ mod blank;
 mod cells;
 mod connections;
 mod database;
-mod log_port;
 mod look;
 mod machine;
 mod notes;

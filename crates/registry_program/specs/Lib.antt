@@ -7,7 +7,6 @@ pub mod Commands
 pub mod DryRuns
 pub mod Checking
 pub mod Serving
-pub mod Sharing
 pub mod Replaying
 pub mod Performing
 pub mod Whole

@@ -353,7 +353,7 @@ ReplaysWholly {H} {F} {I} m d s r input old new path file ends =
     ⊎ ((failure : Failure) × m.lacks old new file failure × IsFailure failure ends))
 
 -- What holds from the files before a command to the files after it. A trial, the check of a founding and a look-up open no store,
--- so nothing is said of them. Nor is it of the commands over a log: what `performs` says of them speaks of the registry.
+-- so nothing is said of them.
 abbrev pub IsWhole : {H F I R W IN : Type 0} → host.Ghosts H F I → disk.Ghosts F → source.Ghosts I → connections.Ghosts H R W → source.Ghosts R → sink.Ghosts W
     → source.Ghosts IN → Command (List ℕ) → H → H → IN → IN → Ends → Type 0
 IsWhole m d s c r w i command.Trial old new input input_new ends = ⊤
@@ -364,8 +364,6 @@ IsWhole m d s c r w i (command.CheckFounding founding) old new input input_new e
 IsWhole m d s c r w i (command.CheckImport path list caller key org vendor) old new input input_new ends = ForetellsWholly m d s i input input_new old new path list caller key org vendor ends
 IsWhole m d s c r w i (command.Replay path file) old new input input_new ends = ReplaysWholly m d s i input old new path file ends
 IsWhole m d s c r w i (command.Serve path port count) old new input input_new ends = ServesWholly m d c r w old new path port (limit_of count) ends
-IsWhole m d s c r w i (command.ServeShared path port count address) old new input input_new ends = ⊤
-IsWhole m d s c r w i (command.Share path address) old new input input_new ends = ⊤
 IsWhole m d s c r w i (command.Export path stamp) old new input input_new ends = ExportsWholly m d old new path stamp ends
 IsWhole m d s c r w i (command.Report path name) old new input input_new ends = ReportsWholly m d old new path (report_named name) ends
 IsWhole m d s c r w i (command.History path from) old new input input_new ends = PrintsRecordWholly m d old new path from ends
