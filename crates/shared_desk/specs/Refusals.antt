@@ -1,6 +1,5 @@
 -- What a message gets if the registry does not go on with its log.
-use Rattle.std.specs.Prelude.{Bool, true, false, Option, Some, None, Result, Ok, Err}
-use Rattle.registry_http.specs.declared.response.Response.{Response}
+use Rattle.std.specs.Prelude.{Bool, true, false, Option, Some, None}
 use Rattle.registry_http.specs.declared.unavailable.Unavailable.{Unavailable}
 use Rattle.registry_http.specs.declared.unavailable.Unavailable.TheVariants as unavailable
 use Rattle.registry_desk.specs.declared.fault.DeskFault.{DeskFault}
@@ -43,8 +42,3 @@ stop_of desk.NoMemory = stops.NoMemory
 abbrev pub fault_behind : Option ShareStop → Option Fault
 fault_behind None = None
 fault_behind (Some stop) = fault_of stop
-
--- what stopped a message
-abbrev pub stop_in : Result Response ShareStop → Option ShareStop
-stop_in (Ok response) = None
-stop_in (Err stop) = Some stop

@@ -6,10 +6,11 @@
 //!
 //! # One message
 //!
-//! The response is that of a history which was the whole log at some instant of the call
-//! (`IsAnswerOver`): no answer is older than one that any machine gave before the message came. An
-//! order that is accepted is in the log before its response is written, and the registry then follows
-//! the log with it. A message that is refused by itself is not asked of the log.
+//! The response is that of a history which was the whole log at some instant between the end of the
+//! message before it and its own (`IsAnswerOver`). No clause says that this instant comes after the
+//! message was read, since none orders the calls of a source and of a log: `serve_message` reads first.
+//! When a message has ended, the log has each order that was answered, and the registry follows the log
+//! with it. A message that is refused by itself is not asked of the log.
 //!
 //! By the law [`is_no_older`] the history of an answer leads to that of each later one, whichever
 //! machines gave the two.

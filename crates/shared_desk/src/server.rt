@@ -108,7 +108,7 @@ fn serve_beside<C: Connections, S: Alter, L: Log>(
 ///
 /// Before it answers a query or acts on an order it acts on the lines of the log that the registry has
 /// not acted on. What is written for each message is its response over the history of the whole log, as
-/// it was at some instant after the message came; or refusal 30 or 31; or a prefix if the peer failed.
+/// it was at some instant of serving it; or refusal 30 or 31; or a prefix if the peer failed.
 ///
 /// A call of the log without an answer and a lack of memory get refusal 30 or 31, and the server goes
 /// on. The order may then be in the log, or come into it later.
