@@ -12,7 +12,7 @@ use Rattle.clap.specs.declared.builder.value_parser.ValueParser.TheVariants as p
 use Rattle.clap.specs.declared.error.kind.ErrorKind.TheVariants as kind
 use Rattle.registry_arguments.specs.declared.command.Command.{Command}
 use Rattle.registry_arguments.specs.declared.command.Command.TheVariants as command
-use Rattle.registry_arguments.specs.Commands.{apply_app, apply_in, asked_by, bare_app, check_app, check_in, chosen, command_of, export_app, export_in, faults_of, found_app, found_in, head_app, head_in, import_app, import_in, replay_in, history_in, lookup_app, lookup_in, most_connections, number_if_given, number_in, history_app, named, replay_app, report_app, report_in, serve_app, serve_in, trial_app, usbreg_app}
+use Rattle.registry_arguments.specs.Commands.{apply_app, apply_in, asked_by, bare_app, check_app, check_in, chosen, command_of, export_app, export_in, faults_of, found_app, found_in, head_app, head_in, import_app, import_in, replay_in, history_in, lookup_app, lookup_in, most_connections, number_if_given, number_in, history_app, named, replay_app, report_app, report_in, serve_app, serve_in, share_app, share_in, trial_app, usbreg_app}
 use Rattle.registry_arguments.proofs.ClapLevelLemmas.{HasValues, first_given, first_passes, level_values}
 use Rattle.registry_arguments.proofs.EnteredLemmas.{Asks, asked}
 
@@ -72,6 +72,9 @@ replay_there rows store record_path = rw ((value_of _ store).1, (value_of _ reco
 serve_there : (rows : List Row) → Has rows (codes "store") → (port : (text : Text) × (first_of (codes "port") rows ≡ Some text)) → IsSome (number_in 1 65535 port.0)
     → IsSome (number_if_given 0 most_connections (first_of (codes "count") rows)) → IsSome (serve_in rows)
 serve_there rows store port number count = rw ((value_of _ store).1, port.1, (value_of _ number).1, (value_of _ count).1) refl
+
+share_there : (rows : List Row) → Has rows (codes "store") → Has rows (codes "log") → IsSome (share_in rows)
+share_there rows store log = rw ((value_of _ store).1, (value_of _ log).1) refl
 
 export_there : (rows : List Row) → Has rows (codes "store") → IsSome (export_in rows)
 export_there rows store = rw ((value_of _ store).1) refl
@@ -134,12 +137,21 @@ replay_asks name words met free none =
     let given = λ (id : Text). first_given s rows id has.values in
     replay_there rows (given (codes "store") (has.given.0 refl)) (given (codes "record") (has.given.1.0 refl))
 
+share_asks : Asks (built_leaf share_app.top)
+unfolding share_app
+share_asks name words met free none =
+    let s = built_leaf share_app.top in
+    let rows = rows_after s.rules [] words in
+    let has : HasValues s rows = level_values s refl ((refl, refl, inl (refl, inl refl)), ((refl, refl, inl (refl, inl refl)), ((refl, refl, inl (refl, inr (codes "true", refl))), ((refl, refl, inr (λ values rows e. absurd cc)), tt)))) words none in
+    let given = λ (id : Text). first_given s rows id has.values in
+    share_there rows (given (codes "store") (has.given.0 refl)) (given (codes "log") (has.given.1.0 refl))
+
 serve_asks : Asks (built_leaf serve_app.top)
 unfolding serve_app
 serve_asks name words met free none =
     let s = built_leaf serve_app.top in
     let rows = rows_after s.rules [] words in
-    let has : HasValues s rows = level_values s refl ((refl, refl, inl (refl, inl refl)), ((refl, refl, inl (refl, inl refl)), ((refl, refl, inl (refl, inl refl)), ((refl, refl, inl (refl, inr (codes "true", refl))), ((refl, refl, inr (λ values rows e. absurd cc)), tt))))) words none in
+    let has : HasValues s rows = level_values s refl ((refl, refl, inl (refl, inl refl)), ((refl, refl, inl (refl, inl refl)), ((refl, refl, inl (refl, inl refl)), ((refl, refl, inl (refl, inl refl)), ((refl, refl, inl (refl, inr (codes "true", refl))), ((refl, refl, inr (λ values rows e. absurd cc)), tt)))))) words none in
     let given = λ (id : Text). first_given s rows id has.values in
     let port = value_of (first_of (codes "port") rows) (given (codes "port") (has.given.1.0 refl)) in
     let number = number_passes false 1 65535 port.0 (first_passes s rows (codes "port") port.0 _ has.values refl port.1) in
@@ -214,8 +226,8 @@ help_asks name words met free none = absurd (not_help name met free)
 
 -- arguments without a fault ask for a command
 pub asks_for_a_command : (words : List Text) → faults_of words ≡ [] → IsSome (command_of words)
-unfolding faults_of chosen bare_app trial_app found_app apply_app import_app replay_app serve_app export_app report_app history_app head_app check_app lookup_app
+unfolding faults_of chosen bare_app trial_app found_app apply_app import_app replay_app share_app serve_app export_app report_app history_app head_app check_app lookup_app
 asks_for_a_command words none =
     asked (built usbreg_app) refl
-    (trial_asks, (found_asks, (apply_asks, (import_asks, (replay_asks, (serve_asks, (export_asks, (report_asks, (history_asks, (head_asks, (check_asks, (lookup_asks, (help_asks, tt)))))))))))))
+    (trial_asks, (found_asks, (apply_asks, (import_asks, (replay_asks, (share_asks, (serve_asks, (export_asks, (report_asks, (history_asks, (head_asks, (check_asks, (lookup_asks, (help_asks, tt))))))))))))))
     (argument_words usbreg_app words) none

@@ -3,12 +3,12 @@ use Rattle.std.proofs.Common.{◌≡◌, List, [], ◌∷◌, codes, true, false
 use Rattle.std.specs.Prelude.{⊤}
 use Rattle.clap.specs.Words.{Text}
 use Rattle.clap.proofs.OnLiterals.{clap_on_literals}
-use Rattle.registry_arguments.specs.Commands.{accepts, apply_app, asked_by, bare_app, check_app, chosen, command_of, export_app, found_app, head_app, import_app, is_verbose, lookup_app, number_in, history_app, replay_app, report_app, serve_app, trial_app, verbose_by}
+use Rattle.registry_arguments.specs.Commands.{accepts, apply_app, asked_by, bare_app, check_app, chosen, command_of, export_app, found_app, head_app, import_app, is_verbose, lookup_app, number_in, history_app, replay_app, report_app, serve_app, share_app, trial_app, verbose_by}
 use Rattle.registry_arguments.specs.declared.command.Command.TheVariants as command
 
 -- unfolded by a proof to compute the command of literal arguments
 unfoldable on_literals : ⊤
-unfolding clap_on_literals bare_app trial_app found_app apply_app import_app replay_app serve_app export_app report_app history_app head_app check_app lookup_app asked_by chosen number_in accepts verbose_by
+unfolding clap_on_literals bare_app trial_app found_app apply_app import_app replay_app share_app serve_app export_app report_app history_app head_app check_app lookup_app asked_by chosen number_in accepts verbose_by
 on_literals = tt
 
 abbrev usbreg : List Text → List Text
@@ -46,6 +46,18 @@ replays = refl
 pub serves : command_of (usbreg (codes "serve" ∷ codes "s" ∷ codes "--port" ∷ codes "80" ∷ codes "--count=0" ∷ [])) ≡ Some (command.Serve (codes "s") 80 (Some 0))
 unfolding on_literals
 serves = refl
+
+pub serves_over_a_log : command_of (usbreg (codes "serve" ∷ codes "s" ∷ codes "--port" ∷ codes "80" ∷ codes "--log" ∷ codes "u" ∷ [])) ≡ Some (command.ServeShared (codes "s") 80 None (codes "u"))
+unfolding on_literals
+serves_over_a_log = refl
+
+pub shares : command_of (usbreg (codes "share" ∷ codes "s" ∷ codes "--log=u" ∷ [])) ≡ Some (command.Share (codes "s") (codes "u"))
+unfolding on_literals
+shares = refl
+
+pub shares_into_no_log : accepts (usbreg (codes "share" ∷ codes "s" ∷ [])) ≡ false
+unfolding on_literals
+shares_into_no_log = refl
 
 pub exports : command_of (usbreg (codes "export" ∷ codes "s" ∷ codes "--stamp" ∷ codes "t" ∷ [])) ≡ Some (command.Export (codes "s") (Some (codes "t")))
 unfolding on_literals

@@ -3,7 +3,7 @@
 ghost use Rattle.std.specs.Prelude.{◌≡◌, ◌∷◌, [], IfOk, Some, false, codes};
 ghost use Rattle.clap.specs.Words.{app_of, items_of, rule_of, new_app, with_rule, with_subcommand};
 ghost use Rattle.clap.specs.declared.builder.command.Command.TheViews.{out-Command};
-ghost use Rattle.registry_arguments.specs.Commands.{flag, needed_option, numeric, option, positional};
+ghost use Rattle.registry_arguments.specs.Commands.{flag, most_connections, needed_option, numeric, option, positional};
 
 use clap::builder::{ValueParser, ValueRange};
 use clap::{Arg, ArgAction, Command};
@@ -146,6 +146,18 @@ pub(crate) fn with_sender<'a>(
     let command = with_arg(command, caller)?;
     let command = with_arg(command, key)?;
     with_arg(command, org)
+}
+
+/// Adds the options for the port and for the number of connections.
+pub(crate) fn with_port<'a>(alloc: Global, command: Command<'a>) -> Result<Command<'a>, AllocError>
+    ensures app { IfOk result (λ c. app_of c ≡ with_rule (with_rule (app_of command.entry)
+        (numeric 1 65535 (needed_option (codes "port")))) (numeric 0 most_connections (option (codes "count")))) }
+    ensures local { IfOk result (λ c. (out-Command c).has_globals ≡ (out-Command command.entry).has_globals) }
+{
+    let port = needed_option(alloc, "port", "P", "The port, from 1 to 65535");
+    let command = with_arg(command, numeric(port, 1, MOST_PORT))?;
+    let count = option(alloc, "count", "N", "Stop after N connections");
+    with_arg(command, numeric(count, 0, MOST_CONNECTIONS))
 }
 
 /// Adds `--verbose`, which each subcommand has.

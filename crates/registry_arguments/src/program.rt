@@ -3,11 +3,11 @@
 ghost use Rattle.std.specs.Prelude.{◌≡◌, IfOk, Some, false, codes, option_copied};
 ghost use Rattle.clap.specs.Words.{app_of, new_app, with_subcommand};
 ghost use Rattle.clap.specs.declared.builder.command.Command.TheViews.{out-Command};
-ghost use Rattle.registry_arguments.specs.Commands.{apply_app, check_app, export_app, found_app, head_app, history_app, import_app, lookup_app, replay_app, report_app, serve_app, trial_app, usbreg_app, versioned};
+ghost use Rattle.registry_arguments.specs.Commands.{apply_app, check_app, export_app, found_app, head_app, history_app, import_app, lookup_app, replay_app, report_app, serve_app, share_app, trial_app, usbreg_app, versioned};
 
 use crate::parts::{
-    MOST_CONNECTIONS, MOST_PASSED, MOST_PORT, needed_option, numeric, option, positional,
-    subcommand, with_arg, with_check, with_command, with_sender, with_vendor, with_verbose,
+    MOST_PASSED, needed_option, numeric, option, positional, subcommand, with_arg, with_check,
+    with_command, with_port, with_sender, with_vendor, with_verbose,
 };
 use clap::Command;
 use std::alloc::{AllocError, Global};
@@ -149,6 +149,28 @@ fn replay<'a>(alloc: Global) -> Result<Command<'a>, AllocError>
     with_verbose(alloc, command)
 }
 
+#[tactic(auto, unfolding(crate::specs::Commands::share_app))]
+fn share<'a>(alloc: Global) -> Result<Command<'a>, AllocError>
+    ensures app { IfOk result (λ c. app_of c ≡ share_app) }
+    ensures local { IfOk result (λ c. (out-Command c).has_globals ≡ false) }
+{
+    let command = subcommand(
+        alloc,
+        "share",
+        "Put the record of a registry into a log in etcd, which several machines share",
+        "URL is http://HOST:PORT/NAME, with the name of the log. Lines that are there already are \
+         compared, so a run that was stopped can be made again. Then serve with the same --log on each \
+         machine.\n\nExample:\n  usbreg share numbers.db --log http://127.0.0.1:2379/numbers",
+    );
+    let command = with_arg(
+        command,
+        positional(alloc, "store", "STORE", "The registry's file"),
+    )?;
+    let log = needed_option(alloc, "log", "URL", "The log in etcd");
+    let command = with_arg(command, log)?;
+    with_verbose(alloc, command)
+}
+
 #[tactic(auto, unfolding(crate::specs::Commands::serve_app))]
 fn serve<'a>(alloc: Global) -> Result<Command<'a>, AllocError>
     ensures app { IfOk result (λ c. app_of c ≡ serve_app) }
@@ -164,10 +186,14 @@ fn serve<'a>(alloc: Global) -> Result<Command<'a>, AllocError>
         command,
         positional(alloc, "store", "STORE", "The registry's file"),
     )?;
-    let port = needed_option(alloc, "port", "P", "The port, from 1 to 65535");
-    let command = with_arg(command, numeric(port, 1, MOST_PORT))?;
-    let count = option(alloc, "count", "N", "Stop after N connections");
-    let command = with_arg(command, numeric(count, 0, MOST_CONNECTIONS))?;
+    let command = with_port(alloc, command)?;
+    let log = option(
+        alloc,
+        "log",
+        "URL",
+        "The log in etcd that several machines share",
+    );
+    let command = with_arg(command, log)?;
     with_verbose(alloc, command)
 }
 
@@ -326,16 +352,17 @@ fn bare<'a>(alloc: Global) -> Command<'a>
         )
 }
 
-/// Adds `trial`, `found`, `apply`, `import` and `replay`.
+/// Adds `trial`, `found`, `apply`, `import`, `replay` and `share`.
 fn with_requests<'a>(alloc: Global, program: Command<'a>) -> Result<Command<'a>, AllocError>
-    ensures { IfOk result (λ c. app_of c ≡ with_subcommand (with_subcommand (with_subcommand (with_subcommand (with_subcommand
-        (app_of program.entry) trial_app.top) found_app.top) apply_app.top) import_app.top) replay_app.top) }
+    ensures { IfOk result (λ c. app_of c ≡ with_subcommand (with_subcommand (with_subcommand (with_subcommand (with_subcommand (with_subcommand
+        (app_of program.entry) trial_app.top) found_app.top) apply_app.top) import_app.top) replay_app.top) share_app.top) }
 {
     let program = with_command(program, trial(alloc)?)?;
     let program = with_command(program, found(alloc)?)?;
     let program = with_command(program, apply(alloc)?)?;
     let program = with_command(program, import(alloc)?)?;
-    with_command(program, replay(alloc)?)
+    let program = with_command(program, replay(alloc)?)?;
+    with_command(program, share(alloc)?)
 }
 
 /// Adds `serve`, `export`, `report`, `history`, `head`, `check` and `lookup`.

@@ -20,6 +20,7 @@ mod blank;
 mod cells;
 mod connections;
 mod database;
+mod log_port;
 mod look;
 mod machine;
 mod notes;

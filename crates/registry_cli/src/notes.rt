@@ -21,6 +21,8 @@ pub enum Trouble {
     Folder,
     /// The input has so many bytes, more than so many.
     TooLong(u64, u64),
+    /// The log has another record than the store, from this line on.
+    OtherRecord(u32),
 }
 
 /// The most bytes that are kept of an input.
@@ -105,6 +107,9 @@ fn words_of(alloc: Global, trouble: Trouble, folder: &str) -> Result<String, All
         Trouble::Folder => format!(in alloc; "permission denied in its folder {folder}"),
         Trouble::TooLong(length, most) => {
             format!(in alloc; "has {length} bytes; it may have at most {most}")
+        }
+        Trouble::OtherRecord(n) => {
+            format!(in alloc; "has another record than the store, from line {n} on")
         }
         Trouble::Known(words) => String::from_str(alloc, words),
         Trouble::System(error) => match words_of_kind(error.kind()) {

@@ -5,4 +5,5 @@ pub mod ForetoldLemmas
 pub mod WholeLemmas
 pub mod ReplayWholeLemmas
 pub mod CheckWholeLemmas
+pub mod SharedWholeLemmas
 pub mod PerformsLemmas

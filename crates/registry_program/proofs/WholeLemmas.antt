@@ -81,7 +81,7 @@ module _ {H F I : Type 0} (m : host.Ghosts H F I) (d : disk.Ghosts F) where
   module _ (old new : H) (path : List ℕ) (ends : Ends) (Does : H → H → TheRegistry m d → TheRegistry m d → Ends → Type 0)
       (over : IsRunOver m d old new path ends Does) (same : ends.status ≡ over.before) (endures : HasCleanDisk (state_of over.after) → HasCleanDisk (state_of over.it)) where
     -- the closed files hold what the registry left
-    files_lead_to : (h next : History) (After : History → History → Type 0)
+    pub files_lead_to : (h next : History) (After : History → History → Type 0)
         → ((x : History) → IsEither h next x → Represents over.it x → HasCleanDisk (state_of over.after) → LeavesSome over.after After)
         → LeadsFilesTo m d old path over.closes.files h next After
     files_lead_to h next After does legal legal_next from held honest =

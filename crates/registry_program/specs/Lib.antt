@@ -7,8 +7,10 @@ pub mod Commands
 pub mod DryRuns
 pub mod Checking
 pub mod Serving
+pub mod Sharing
 pub mod Replaying
-pub mod Performing
 pub mod Whole
+pub mod SharedWhole
+pub mod Performing
 pub mod Running
 pub mod Making

@@ -18,11 +18,12 @@ use Rattle.registry_commands.specs.Ends.{Ends, Output, Receives, ReceivesPrefix,
 use Rattle.registry_commands.specs.Failures.{Prints}
 use Rattle.registry_commands.specs.Messages.{failure_line}
 use Rattle.registry_desk.specs.declared.server.Connections as connections
+use Rattle.shared_log.specs.declared.log.Log as log
 use Rattle.registry_program.specs.declared.host.Host as host
+use Rattle.registry_program.specs.declared.logs.Logs as logs
 use Rattle.registry_program.specs.Explained.{IsExplained}
 use Rattle.registry_program.specs.Outputs.{IsFailure, earlier, later}
-use Rattle.registry_program.specs.Performing.{Performs}
-use Rattle.registry_program.specs.Whole.{IsWhole}
+use Rattle.registry_program.specs.Performing.{IsWhole, Performs}
 
 -- ---- the arguments are a command
 
@@ -35,16 +36,16 @@ abbrev pub IsPrompted : Bool → Command (List ℕ) → Output → Type 0
 IsPrompted is_waited_for command.Trial errors = (is_waited_for ≡ true → Prints errors prompt_line) × (is_waited_for ≡ false → errors.new ≡ errors.old)
 IsPrompted is_waited_for _ errors = errors.new ≡ errors.old
 
-module _ {H F I R W IN : Type 0} (m : host.Ghosts H F I) (d : disk.Ghosts F) (s : source.Ghosts I) (c : connections.Ghosts H R W) (r : source.Ghosts R) (w : sink.Ghosts W)
-    (i : source.Ghosts IN) where
+module _ {H F I R W IN K : Type 0} (m : host.Ghosts H F I) (d : disk.Ghosts F) (s : source.Ghosts I) (c : connections.Ghosts H R W) (r : source.Ghosts R) (w : sink.Ghosts W)
+    (i : source.Ghosts IN) (k : logs.Ghosts H K) (l : log.Ghosts K) where
   -- The command was performed, as `Performs` and `IsWhole` say. The error output got the prompt before it, and the cause of a
   -- failure after it.
   pub record IsObeyed (command : Command (List ℕ)) (says_causes is_waited_for : Bool) (old new : H) (input input_new : IN) (ends : Ends) : Type 0 where
     pub begun : Sunk
     pub prompted : IsPrompted is_waited_for command (record { old = ends.errors.old; new = begun })
     pub told : Sunk
-    pub performs : Performs m d s c r w i command old new input input_new (earlier (later ends begun) told ends.status)
-    pub whole : IsWhole m d s c r w i command old new input input_new (earlier (later ends begun) told ends.status)
+    pub performs : Performs m d s c r w i k l command old new input input_new (earlier (later ends begun) told ends.status)
+    pub whole : IsWhole m d s c r w i k l command old new input input_new (earlier (later ends begun) told ends.status)
     pub explained : IsExplained says_causes command ends.status told ends.errors.new
 
 -- ---- they are none
@@ -76,13 +77,13 @@ IsUsage NoMemory ends = IsFailure Memory ends
 
 -- ---- both
 
-module _ {H F I R W IN : Type 0} (m : host.Ghosts H F I) (d : disk.Ghosts F) (s : source.Ghosts I) (c : connections.Ghosts H R W) (r : source.Ghosts R) (w : sink.Ghosts W)
-    (i : source.Ghosts IN) where
+module _ {H F I R W IN K : Type 0} (m : host.Ghosts H F I) (d : disk.Ghosts F) (s : source.Ghosts I) (c : connections.Ghosts H R W) (r : source.Ghosts R) (w : sink.Ghosts W)
+    (i : source.Ghosts IN) (k : logs.Ghosts H K) (l : log.Ghosts K) where
   -- The arguments are a command, and it was performed. Or they are refused, ask for the help or the version, or memory does not
   -- suffice for them, and nothing was done but to say so.
   abbrev pub IsRunBy : List (List ℕ) → Bool → Bool → H → H → IN → IN → Ends → Type 0
   IsRunBy arguments says_causes is_waited_for old new input input_new ends =
       ((command : Command (List ℕ)) × (accepts arguments ≡ true) × (command_of arguments ≡ Some command)
-      × IsObeyed m d s c r w i command says_causes is_waited_for old new input input_new ends)
+      × IsObeyed m d s c r w i k l command says_causes is_waited_for old new input input_new ends)
       ⊎ ((usage : Usage) × (accepts arguments ≡ true → usage ≡ NoMemory) × IsOfFaults (faults_of arguments) usage
       × (new ≡ old) × (input_new ≡ input) × IsUsage usage ends)

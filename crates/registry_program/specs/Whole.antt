@@ -1,6 +1,6 @@
 -- What the files of a store hold after a command, and what the outputs have gained, by the history that the files held before
 -- it.
-use Rattle.std.specs.Prelude.{◌≡◌, ◌≢◌, ◌⊎◌, ◌<◌, ◌≤◌, ◌+◌, ⊤, Bool, false, true, ℕ, List, [], ◌++◌, codes, length, take, drop, Option, Some, None, Result, Ok, Err}
+use Rattle.std.specs.Prelude.{◌≡◌, ◌≢◌, ◌⊎◌, ◌<◌, ◌≤◌, ◌+◌, Bool, false, true, ℕ, List, [], ◌++◌, codes, length, take, drop, Option, Some, None, Result, Ok, Err}
 use Rattle.std.specs.Io.KnownBytes.{Appends, Keeps}
 use Rattle.std.specs.Str.{bytes_eq}
 use Rattle.sqlite_disk.specs.declared.Disk as disk
@@ -27,8 +27,6 @@ use Rattle.registry_reports.specs.History.{IsListing}
 use Rattle.registry_tables.specs.Rows.{newest}
 use Rattle.registry_wire.specs.Founding.{Founds, Listed, founding_listed}
 use Rattle.registry_store.specs.Files.{FilesHoldEither, HoldEither, IsEither}
-use Rattle.registry_arguments.specs.declared.command.Command.{Command}
-use Rattle.registry_arguments.specs.declared.command.Command.TheVariants as command
 use Rattle.registry_commands.specs.declared.arguments.BadArgument.{BadArgument}
 use Rattle.registry_commands.specs.declared.arguments.BadArgument.TheVariants.{Name}
 use Rattle.registry_commands.specs.declared.importing.Import.{Import}
@@ -51,7 +49,6 @@ use Rattle.registry_commands.specs.Messages.{reply_line}
 use Rattle.registry_commands.specs.RecordLines.{MayHaveLines}
 use Rattle.registry_commands.specs.Replayed.{AreBeginning, AreContinued, FirstAccepts, GetTheirReplies, after_lines}
 use Rattle.registry_commands.specs.Recorded.{record_text}
-use Rattle.registry_reports.specs.Kinds.{report_named}
 use Rattle.registry_views.specs.Reports.{IsReport}
 use Rattle.registry_desk.specs.declared.server.Connections as connections
 use Rattle.registry_desk.specs.Server.{HaveVisited, IsLeftAfter, Visit}
@@ -62,7 +59,7 @@ use Rattle.registry_program.specs.Checking.{ChecksRows}
 use Rattle.registry_program.specs.Opening.{HoldsNoHistory}
 use Rattle.registry_program.specs.Outputs.{IsFailure, IsRejection}
 use Rattle.registry_program.specs.Replaying.{IsReplayedIn, ReplaysLines}
-use Rattle.registry_program.specs.Serving.{ServesOn, limit_of}
+use Rattle.registry_program.specs.Serving.{ServesOn}
 use Rattle.registry_program.specs.Stores.{IsMissed, IsRunOver, IsUnconnected, Opens, TheRegistry}
 
 -- ---- what a command makes of the history
@@ -351,22 +348,3 @@ ReplaysWholly {H} {F} {I} m d s r input old new path file ends =
     (bytes_eq file (codes "-") ≡ true → ReplaysWhollyFrom m d r input old new path ends)
     × (bytes_eq file (codes "-") ≡ false → ((read : H) × (source : I) × m.reads old read file source × ReplaysWhollyFrom m d s source read new path ends)
     ⊎ ((failure : Failure) × m.lacks old new file failure × IsFailure failure ends))
-
--- What holds from the files before a command to the files after it. A trial, the check of a founding and a look-up open no store,
--- so nothing is said of them.
-abbrev pub IsWhole : {H F I R W IN : Type 0} → host.Ghosts H F I → disk.Ghosts F → source.Ghosts I → connections.Ghosts H R W → source.Ghosts R → sink.Ghosts W
-    → source.Ghosts IN → Command (List ℕ) → H → H → IN → IN → Ends → Type 0
-IsWhole m d s c r w i command.Trial old new input input_new ends = ⊤
-IsWhole m d s c r w i (command.Found path founding) old new input input_new ends = FoundsWholly m d s old new path founding ends
-IsWhole m d s c r w i (command.Apply path file answered) old new input input_new ends = AppliesWholly m d s i input input_new old new path file answered ends
-IsWhole m d s c r w i (command.Import path list caller key org vendor) old new input input_new ends = ImportsWholly m d s i input input_new old new path list caller key org vendor ends
-IsWhole m d s c r w i (command.CheckFounding founding) old new input input_new ends = ⊤
-IsWhole m d s c r w i (command.CheckImport path list caller key org vendor) old new input input_new ends = ForetellsWholly m d s i input input_new old new path list caller key org vendor ends
-IsWhole m d s c r w i (command.Replay path file) old new input input_new ends = ReplaysWholly m d s i input old new path file ends
-IsWhole m d s c r w i (command.Serve path port count) old new input input_new ends = ServesWholly m d c r w old new path port (limit_of count) ends
-IsWhole m d s c r w i (command.Export path stamp) old new input input_new ends = ExportsWholly m d old new path stamp ends
-IsWhole m d s c r w i (command.Report path name) old new input input_new ends = ReportsWholly m d old new path (report_named name) ends
-IsWhole m d s c r w i (command.History path from) old new input input_new ends = PrintsRecordWholly m d old new path from ends
-IsWhole m d s c r w i (command.Head path) old new input input_new ends = PrintsHeadWholly m d old new path ends
-IsWhole m d s c r w i (command.Check path) old new input input_new ends = ChecksWholly m d old new path ends
-IsWhole m d s c r w i (command.Lookup list vid pid) old new input input_new ends = ⊤

@@ -57,6 +57,8 @@ fn store_of<'a>(command: Command<&'a str>) -> Option<&'a str> {
         Command::CheckImport { store, .. } => Some(store),
         Command::Replay { store, .. } => Some(store),
         Command::Serve { store, .. } => Some(store),
+        Command::ServeShared { store, .. } => Some(store),
+        Command::Share { store, .. } => Some(store),
         Command::Export { store, .. } => Some(store),
         Command::Report { store, .. } => Some(store),
         Command::History { store, .. } => Some(store),
@@ -83,6 +85,14 @@ fn input_of<'a>(command: Command<&'a str>) -> &'a str {
     }
 }
 
+/// Returns the address of the log that a command uses.
+fn log_of<'a>(command: Command<&'a str>) -> &'a str {
+    match command {
+        Command::ServeShared { log, .. } | Command::Share { log, .. } => log,
+        _ => "the log",
+    }
+}
+
 /// Returns a path as it is shown: an empty one in quotes.
 fn shown_path<'a>(path: &'a str) -> &'a str {
     if path.is_empty() { "\"\"" } else { path }
@@ -97,8 +107,11 @@ fn subject_of(alloc: Global, command: Command<&str>, about: About) -> Result<Str
         )?),
         About::Input => Ok(String::from_str(alloc, shown_path(input_of(command)))?),
         About::Output => Ok(String::from_str(alloc, "standard output")?),
+        About::Log => Ok(String::from_str(alloc, log_of(command))?),
         About::Port => match command {
-            Command::Serve { port, .. } => Ok(format!(in alloc; "port {port}")?),
+            Command::Serve { port, .. } | Command::ServeShared { port, .. } => Ok(format!(in alloc;
+                "port {port}"
+            )?),
             _ => Ok(String::from_str(alloc, "the port")?),
         },
     }
@@ -227,6 +240,15 @@ fn words_for<H: Host>(
             "no connection was accepted",
         )?;
         return Ok(Some(words));
+    }
+    if is_message(line, "fault: log\n") {
+        let cause = host.cause(alloc, None);
+        let words = words_or(alloc, command, cause, About::Log, "no cause is known")?;
+        return Ok(Some(words));
+    }
+    if is_message(line, "bad word: log\n") {
+        let words = "the address of a log is http://HOST:PORT/NAME, where NAME is a slug";
+        return Ok(Some(String::from_str(alloc, words)?));
     }
     if is_message(line, "no fresh number\n") {
         return words_for_list(alloc, host, command, vendor);

@@ -27,6 +27,8 @@ pub enum About {
     Output,
     /// The port.
     Port,
+    /// The log that several machines share.
+    Log,
 }
 
 /// Why a call of a machine failed.

@@ -5,9 +5,8 @@ ghost use Rattle.registry_arguments.specs.Commands.{texts};
 ghost use Rattle.registry_commands.specs.Ends.{Sunk, code, ends_of, sunk};
 ghost use Rattle.registry_program.specs.Explained.{IsExplained, is_check};
 ghost use Rattle.registry_program.specs.Outputs.{earlier};
-ghost use Rattle.registry_program.specs.Performing.{Performs};
+ghost use Rattle.registry_program.specs.Performing.{IsWhole, Performs};
 ghost use Rattle.registry_program.specs.Statuses.{IsStatus};
-ghost use Rattle.registry_program.specs.Whole.{IsWhole};
 
 use crate::applying::run_apply;
 use crate::causes::{explain, remark};
@@ -17,8 +16,10 @@ use crate::founding::run_found;
 use crate::host::Host;
 use crate::importing::run_import;
 use crate::last_line::LastLine;
+use crate::logs::Logs;
 use crate::replaying::run_replay;
 use crate::serving::run_serve;
+use crate::sharing::{run_serve_shared, run_share};
 use crate::showing::{run_export, run_head, run_history, run_lookup, run_report};
 use byte_streams::{Sink, Source};
 use registry_arguments::Command;
@@ -29,7 +30,7 @@ use usbnum_core::Vid;
 
 /// Does what the command asks for, and returns the exit status. Of an import, `sought` is then the
 /// vendor whose devices are imported.
-fn act_by<H: Host + Connections, R: Source, W: Sink, E: Sink>(
+fn act_by<H: Host + Connections + Logs, R: Source, W: Sink, E: Sink>(
     alloc: Global,
     host: &mut H,
     command: Command<&str>,
@@ -38,7 +39,7 @@ fn act_by<H: Host + Connections, R: Source, W: Sink, E: Sink>(
     output: &mut W,
     errors: &mut E,
 ) -> ExitStatus
-    ensures { Performs H.Host H.File.Disk H.Input.Source H.Connections H.Reader.Source H.Writer.Sink R.Source (texts command.entry) host.old host.new input.old input.new
+    ensures { Performs H.Host H.File.Disk H.Input.Source H.Connections H.Reader.Source H.Writer.Sink R.Source H.Logs H.Log.Log (texts command.entry) host.old host.new input.old input.new
         (ends_of W.Sink E.Sink output.old output.new errors.old errors.new result) }
 {
     match command {
@@ -82,6 +83,13 @@ fn act_by<H: Host + Connections, R: Source, W: Sink, E: Sink>(
         Command::Serve { store, port, count } => {
             run_serve(alloc, host, store, port, count, errors)
         }
+        Command::ServeShared {
+            store,
+            port,
+            count,
+            log,
+        } => run_serve_shared(alloc, host, store, port, count, log, errors),
+        Command::Share { store, log } => run_share(alloc, host, store, log, errors),
         Command::Export { store, stamp } => run_export(alloc, host, store, stamp, output, errors),
         Command::Report { store, name } => run_report(alloc, host, store, name, output, errors),
         Command::History { store, after } => {
@@ -143,7 +151,7 @@ fn explain_if<H: Host, E: Sink + LastLine>(
 /// it is a check, the error output may then get one more line, for the cause. It may also get one after a founding,
 /// for keys that are ignored, after a trial or an `apply`, for fields that are ignored, and after an
 /// import, for a list that has nothing of the vendor. What these say is only tested.
-pub fn perform<H: Host + Connections, R: Source, W: Sink, E: Sink + LastLine>(
+pub fn perform<H: Host + Connections + Logs, R: Source, W: Sink, E: Sink + LastLine>(
     alloc: Global,
     host: &mut H,
     command: Command<&str>,
@@ -155,9 +163,9 @@ pub fn perform<H: Host + Connections, R: Source, W: Sink, E: Sink + LastLine>(
     // What the error output had taken before the line with the cause, and what was done till then,
     // also from what the files of a store held to what they hold.
     ensures performs { (told : Sunk)
-        × Performs H.Host H.File.Disk H.Input.Source H.Connections H.Reader.Source H.Writer.Sink R.Source (texts command.entry) host.old host.new input.old input.new
+        × Performs H.Host H.File.Disk H.Input.Source H.Connections H.Reader.Source H.Writer.Sink R.Source H.Logs H.Log.Log (texts command.entry) host.old host.new input.old input.new
         (earlier (ends_of W.Sink E.Sink output.old output.new errors.old errors.new result) told result)
-        × IsWhole H.Host H.File.Disk H.Input.Source H.Connections H.Reader.Source H.Writer.Sink R.Source (texts command.entry) host.old host.new input.old input.new
+        × IsWhole H.Host H.File.Disk H.Input.Source H.Connections H.Reader.Source H.Writer.Sink R.Source H.Logs H.Log.Log (texts command.entry) host.old host.new input.old input.new
         (earlier (ends_of W.Sink E.Sink output.old output.new errors.old errors.new result) told result)
         × IsExplained verbose (texts command.entry) result told (sunk E.Sink errors.new) }
     ensures status { IsStatus (code result) }

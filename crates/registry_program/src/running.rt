@@ -8,6 +8,7 @@ ghost use Rattle.registry_program.specs.Statuses.{IsStatus};
 
 use crate::host::Host;
 use crate::last_line::LastLine;
+use crate::logs::Logs;
 use crate::performing::perform;
 use byte_streams::{Broken, Sink, Source, put_all};
 use clap::Error;
@@ -55,7 +56,7 @@ fn prompt<E: Sink>(command: Command<&str>, is_waited_for: bool, errors: &mut E)
 }
 
 /// Does what the arguments ask for, and returns the exit status.
-fn obey<H: Host + Connections, R: Source, W: Sink, E: Sink + LastLine>(
+fn obey<H: Host + Connections + Logs, R: Source, W: Sink, E: Sink + LastLine>(
     alloc: Global,
     host: &mut H,
     asked: Invocation<&str>,
@@ -64,7 +65,7 @@ fn obey<H: Host + Connections, R: Source, W: Sink, E: Sink + LastLine>(
     output: &mut W,
     errors: &mut E,
 ) -> ExitStatus
-    ensures { IsObeyed H.Host H.File.Disk H.Input.Source H.Connections H.Reader.Source H.Writer.Sink R.Source (texts asked.entry.command)
+    ensures { IsObeyed H.Host H.File.Disk H.Input.Source H.Connections H.Reader.Source H.Writer.Sink R.Source H.Logs H.Log.Log (texts asked.entry.command)
         (asked.entry.verbose || terminals.errors) ((asked.entry.verbose || terminals.errors) && terminals.input) host.old host.new input.old input.new
         (ends_of W.Sink E.Sink output.old output.new errors.old errors.new result) }
 {
@@ -139,7 +140,7 @@ fn answer<W: Sink, E: Sink>(
 /// status. The first argument is the program's own name. If the arguments are a command, the
 /// contract says of it what that of `perform` says, unless memory does not suffice for them. Causes
 /// may be said with `--verbose`, or if the error output is a terminal.
-pub fn run_over<H: Host + Connections, R: Source, W: Sink, E: Sink + LastLine>(
+pub fn run_over<H: Host + Connections + Logs, R: Source, W: Sink, E: Sink + LastLine>(
     alloc: Global,
     host: &mut H,
     arguments: &[String],
@@ -148,7 +149,7 @@ pub fn run_over<H: Host + Connections, R: Source, W: Sink, E: Sink + LastLine>(
     output: &mut W,
     errors: &mut E,
 ) -> ExitStatus
-    ensures runs { IsRunBy H.Host H.File.Disk H.Input.Source H.Connections H.Reader.Source H.Writer.Sink R.Source (map string_bytes arguments.now)
+    ensures runs { IsRunBy H.Host H.File.Disk H.Input.Source H.Connections H.Reader.Source H.Writer.Sink R.Source H.Logs H.Log.Log (map string_bytes arguments.now)
         (is_verbose (map string_bytes arguments.now) || terminals.errors) ((is_verbose (map string_bytes arguments.now) || terminals.errors) && terminals.input)
         host.old host.new input.old input.new (ends_of W.Sink E.Sink output.old output.new errors.old errors.new result) }
     ensures status { IsStatus (code result) }

@@ -16,7 +16,7 @@ use sqlite::Alter;
 use std::alloc::Global;
 
 /// Returns the number of connections to serve: `count` if given, else as many as come.
-fn limit_of(count: Option<u32>) -> u64
+pub(crate) fn limit_of(count: Option<u32>) -> u64
     ensures { result ≡ limit_of count }
 {
     match count {
@@ -26,7 +26,7 @@ fn limit_of(count: Option<u32>) -> u64
 }
 
 /// Prints that the port failed, and returns the exit status.
-fn fail_socket<E: Sink>(errors: &mut E) -> ExitStatus
+pub(crate) fn fail_socket<E: Sink>(errors: &mut E) -> ExitStatus
     ensures status { result ≡ ExitStatus.Failed }
     ensures told { Prints (output_of E.Sink errors.old errors.new) socket_line }
 {

@@ -7,7 +7,9 @@ ghost use Rattle.registry_program_tests.specs.Room.{image_in};
 use byte_streams::{Broken, Inlet, Outlet};
 use registry_commands::Failure;
 use registry_desk::Connections;
-use registry_program::{About, Cause, Host};
+use registry_program::{About, Cause, Host, Logs, NoLog};
+use shared_log::{Log, MemoryLog};
+use shared_registry::ShareStop;
 use sqlite::{Files, Options};
 use sqlite_disk::Memory;
 use std::alloc::Global;
@@ -156,6 +158,47 @@ impl<'a> Host for Room<'a> {
             self.note("left ");
         }
         self.store = Some(files);
+    }
+}
+
+/// Returns a log with these lines.
+fn log_of(alloc: Global, lines: &[u8]) -> MemoryLog {
+    let mut log = MemoryLog::new(alloc, 2);
+    let mut n: u32 = 0;
+    for line in lines.split(|b| *b == b'\n') {
+        if !line.is_empty() {
+            let _answer = log.append(alloc, n, line);
+            n = n.saturating_add(1);
+        }
+    }
+    log
+}
+
+// The log at the name of a file has its lines.
+impl Logs for Room<'_> {
+    type Log = MemoryLog;
+
+    ghost finds = { λ _ _ _ _. ⊤ };
+
+    ghost rejects = { λ _ _ _ _. ⊤ };
+
+    ghost leaves = { λ _ _ _ _. ⊤ };
+
+    fn log_at(&mut self, address: &str) -> Result<MemoryLog, NoLog> {
+        let inputs = self.inputs;
+        for input in inputs {
+            if input.name.as_str() == address {
+                self.note("log ");
+                return Ok(log_of(self.alloc, input.bytes.as_slice()));
+            }
+        }
+        Err(NoLog::BadAddress)
+    }
+
+    fn leave_log(&mut self, log: MemoryLog, stop: ShareStop) {
+        let count = log.lines().len();
+        let _ = write!(self.calls, "{count} lines, {stop:?} ");
+        self.missed = Some(About::Log);
     }
 }
 

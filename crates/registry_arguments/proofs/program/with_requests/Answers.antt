@@ -1,7 +1,7 @@
 use Rattle.std.proofs.Common.{◌≡◌, ◌∙◌, refl}
 use Rattle.std.proofs.lemmas.Result.{IfOk-weaker}
 use Rattle.clap.specs.Words.{App, app_of, with_subcommand}
-use Rattle.registry_arguments.specs.Commands.{trial_app, found_app, apply_app, import_app, replay_app}
+use Rattle.registry_arguments.specs.Commands.{trial_app, found_app, apply_app, import_app, replay_app, share_app}
 use Rattle.registry_arguments.proofs.CommandLemmas.{with_same}
 use Rattle.registry_arguments.proofs.program.with_requests.Goals as goal
 
@@ -16,5 +16,7 @@ returns c =
     let three : app_of c.in_ok-program-3.program ≡ third = c.in_ok-program-3.ensures.app ∙ with_same (app_of c.in_ok-program-2.program) second (app_of c.in_ok-apply.field-0) apply_app two c.in_ok-apply.ensures.app in
     let fourth : App = with_subcommand third import_app.top in
     let four : app_of c.in_ok-program-4.program ≡ fourth = c.in_ok-program-4.ensures.app ∙ with_same (app_of c.in_ok-program-3.program) third (app_of c.in_ok-import.field-0) import_app three c.in_ok-import.ensures.app in
-    let last = with_same (app_of c.in_ok-program-4.program) fourth (app_of c.in_ok-replay.field-0) replay_app four c.in_ok-replay.ensures.app in
-    IfOk-weaker c.with_command-5.result _ _ (λ r h. h ∙ last) c.with_command-5.ensures.app
+    let fifth : App = with_subcommand fourth replay_app.top in
+    let five : app_of c.in_ok-program-5.program ≡ fifth = c.in_ok-program-5.ensures.app ∙ with_same (app_of c.in_ok-program-4.program) fourth (app_of c.in_ok-replay.field-0) replay_app four c.in_ok-replay.ensures.app in
+    let last = with_same (app_of c.in_ok-program-5.program) fifth (app_of c.in_ok-share.field-0) share_app five c.in_ok-share.ensures.app in
+    IfOk-weaker c.with_command-6.result _ _ (λ r h. h ∙ last) c.with_command-6.ensures.app

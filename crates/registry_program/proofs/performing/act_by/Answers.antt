@@ -43,3 +43,9 @@ returns-in-Check g c = rw c.in-Check.is (refl, c.run_check.ensures)
 
 pub returns-in-Lookup : goal.returns-in-Lookup
 returns-in-Lookup g c = rw c.in-Lookup.is (refl, c.run_lookup.ensures)
+
+pub returns-in-ServeShared : goal.returns-in-ServeShared
+returns-in-ServeShared g c = rw c.in-ServeShared.is (refl, c.run_serve_shared.ensures (sunk g.W.Sink c.args.output.now))
+
+pub returns-in-Share : goal.returns-in-Share
+returns-in-Share g c = rw c.in-Share.is (refl, c.run_share.ensures (sunk g.W.Sink c.args.output.now))

@@ -12,7 +12,7 @@ returns-clause-performs g c =
     let act = c.act_by-status in (
       sunk g.E.Sink act.new.errors,
       act.ensures,
-      performs_whole g.H.Host g.H.File.Disk g.H.Input.Source g.H.Connections g.H.Reader.Source g.H.Writer.Sink g.R.Source (texts c.args.command) c.args.host.now act.new.host c.args.input.now act.new.input
+      performs_whole g.H.Host g.H.File.Disk g.H.Input.Source g.H.Connections g.H.Reader.Source g.H.Writer.Sink g.R.Source g.H.Logs g.H.Log.Log (texts c.args.command) c.args.host.now act.new.host c.args.input.now act.new.input
           (ends_of g.W.Sink g.E.Sink c.args.output.now act.new.output c.args.errors.now act.new.errors act.result) act.ensures,
       c.explain_if.ensures,
     )

@@ -1,0 +1,173 @@
+-- What the commands over a log that several machines share ask of the machine.
+use Rattle.std.specs.Prelude.{◌≡◌, ◌≢◌, ◌⊎◌, ◌≤◌, ℕ, true, List, All, length, codes, Result, Ok, Err, IfOk, IfErr, OnOk}
+use Rattle.sqlite_disk.specs.declared.Disk as disk
+use Rattle.sqlite.specs.State.{HasCleanDisk}
+use Rattle.sqlite.specs.Store as store
+use Rattle.byte_streams.specs.declared.streams.Sink as sink
+use Rattle.byte_streams.specs.declared.streams.Source as source
+use Rattle.registry_rules.specs.History.{History}
+use Rattle.registry_laws.specs.Machines.{HasValidFields}
+use Rattle.registry_store.specs.declared.fault.Fault.TheVariants as faults
+use Rattle.registry_store.specs.declared.registry.Registry.{Registry}
+use Rattle.registry_store.specs.Promise.{Endures, NotesForeign, Represents, is_poisoned, state_of}
+use Rattle.registry_store.specs.Queries.{IsUntouched}
+use Rattle.registry_commands.specs.declared.messages.Failure.TheVariants.{Memory}
+use Rattle.registry_commands.specs.declared.status.ExitStatus.TheVariants.{Success, Failed, Rejected}
+use Rattle.registry_commands.specs.Ends.{Ends}
+use Rattle.registry_commands.specs.Failures.{Prints}
+use Rattle.registry_commands.specs.Messages.{failure_of}
+use Rattle.registry_desk.specs.declared.server.Connections as connections
+use Rattle.registry_desk.specs.Server.{HaveVisited, Visit}
+use Rattle.shared_log.specs.Calls.{IsKept, LogLines}
+use Rattle.shared_log.specs.declared.fault.LogFault.TheVariants as log_faults
+use Rattle.shared_log.specs.declared.log.Log as log
+use Rattle.shared_registry.specs.Asks.{AppendsNothing, AppendsRecord, IsAskedFor}
+use Rattle.shared_registry.specs.Cursors.{log_of}
+use Rattle.shared_registry.specs.Follows.{Follows}
+use Rattle.shared_registry.specs.Lines.{fault_in}
+use Rattle.shared_registry.specs.Records.{IsUnshared, stop_in}
+use Rattle.shared_registry.specs.declared.cursor.Cursor.{Cursor}
+use Rattle.shared_registry.specs.declared.stop.ShareStop.{ShareStop}
+use Rattle.shared_registry.specs.declared.stop.ShareStop.TheVariants as stops
+use Rattle.shared_desk.specs.Refusals.{fault_behind}
+use Rattle.shared_desk.specs.Server as desk
+use Rattle.shared_desk.specs.declared.server.SharedStop.{SharedStop}
+use Rattle.shared_desk.specs.declared.server.SharedStop.TheVariants as ends
+use Rattle.registry_program.specs.declared.host.Host as host
+use Rattle.registry_program.specs.declared.logs.Logs as logs
+use Rattle.registry_program.specs.declared.logs.NoLog.{NoLog}
+use Rattle.registry_program.specs.declared.logs.NoLog.TheVariants as reasons
+use Rattle.registry_program.specs.Outputs.{IsFailure}
+use Rattle.registry_program.specs.Serving.{IsSocketFailure}
+use Rattle.registry_program.specs.Stores.{Runs}
+
+-- the message if the registry does not go on with its log
+abbrev pub log_line : List ℕ
+log_line = codes "fault: log\n"
+
+-- the message if the address is that of no log
+abbrev pub address_line : List ℕ
+address_line = codes "bad word: log\n"
+
+-- nothing was written but that the registry does not go on with its log
+abbrev pub IsLogFailure : Ends → Type 0
+IsLogFailure ends = (ends.out.new ≡ ends.out.old) × (ends.status ≡ Failed) × Prints ends.errors log_line
+
+-- nothing was written but that the address is that of no log
+abbrev pub IsBadAddress : Ends → Type 0
+IsBadAddress ends = (ends.out.new ≡ ends.out.old) × (ends.status ≡ Rejected) × Prints ends.errors address_line
+
+-- how a command ends without a log
+abbrev pub TellsNoLog : NoLog → Ends → Type 0
+TellsNoLog reasons.BadAddress ends = IsBadAddress ends
+TellsNoLog reasons.NoMemory ends = IsFailure Memory ends
+
+-- nothing was written, at the status Success
+abbrev pub IsSilent : Ends → Type 0
+IsSilent ends = (ends.out.new ≡ ends.out.old) × (ends.status ≡ Success) × (ends.errors.new ≡ ends.errors.old)
+
+-- how a command ends that this stopped
+abbrev pub TellsStop : ShareStop → Ends → Type 0
+TellsStop (stops.Registry fault) ends = IsFailure (failure_of fault) ends
+TellsStop stops.NoMemory ends = IsFailure Memory ends
+TellsStop (stops.Log log_faults.NoMemory) ends = IsFailure Memory ends
+TellsStop (stops.Log log_faults.NoQuorum) ends = IsLogFailure ends
+TellsStop (stops.Log log_faults.Unreachable) ends = IsLogFailure ends
+TellsStop (stops.Log log_faults.Refused) ends = IsLogFailure ends
+TellsStop (stops.Log log_faults.BadAnswer) ends = IsLogFailure ends
+TellsStop (stops.OtherRecord n) ends = IsLogFailure ends
+TellsStop stops.Ahead ends = IsLogFailure ends
+TellsStop stops.Full ends = IsLogFailure ends
+
+module _ {S L : Type 0} {g : store.Ghosts S} (l : log.Ghosts L) (it after : Registry S g) (log : L) (end : Result (Cursor L) (ShareStop × L)) where
+  -- the registry took up a log, or this stopped it, and nothing was committed
+  pub record TakesUp : Type 0 where
+    pub follows : (lines : L → LogLines) → IsKept l lines → (h : History) → Represents it h → HasValidFields h → HasCleanDisk (state_of after) → IfOk end (λ cursor. Follows l lines after cursor h)
+    pub stopped : (lines : L → LogLines) → IsKept l lines → (h : History) → Represents it h → HasValidFields h → HasCleanDisk (state_of after) → IfErr end (λ left. IsUnshared l lines h log left.1 left.0)
+    pub untouched : IsUntouched it after
+    pub notes : NotesForeign it after (fault_in (stop_in end))
+    pub when_poisoned : is_poisoned it ≡ true → stop_in end ≡ Err (stops.Registry faults.Poisoned)
+
+module _ {H K : Type 0} (k : logs.Ghosts H K) where
+  -- how a command ends that took up a log, and left it
+  abbrev pub TellsShared : H → H → Result (Cursor K) (ShareStop × K) → Ends → Type 0
+  TellsShared old new (Ok cursor) ends = (new ≡ old) × IsSilent ends
+  TellsShared old new (Err left) ends = k.leaves old new left.1 left.0 × TellsStop left.0 ends
+
+  -- how a server ends, and leaves its log
+  abbrev pub TellsServed : H → H → K → Result (Unit {0}) SharedStop → Ends → Type 0
+  TellsServed old new log (Ok done) ends = (new ≡ old) × IsSilent ends
+  TellsServed old new log (Err ends.Connections) ends = (new ≡ old) × IsSocketFailure ends
+  TellsServed old new log (Err (ends.Share stop)) ends = k.leaves old new log stop × TellsStop stop ends
+
+  module _ (l : log.Ghosts K) where
+    -- the record of the registry was put into the log at this address, as `share` says
+    pub record IsSharedAt {S : Type 0} {g : store.Ghosts S} (address : List ℕ) (old new : H) (it after : Registry S g) (ends : Ends) : Type 0 where
+      pub found : H
+      pub log : K
+      pub finds : k.finds old found address log
+      pub end : Result (Cursor K) (ShareStop × K)
+      pub shares : TakesUp l it after log end
+      pub asks : (h : History) → Represents it h → HasValidFields h → HasCleanDisk (state_of after) → IsAskedFor l (AppendsRecord h) log end
+      -- the log is given the lines that it lacks
+      pub never_ahead : IfErr end (λ left. left.0 ≢ stops.Ahead)
+      pub tells : TellsShared found new end ends
+
+    -- that, or there is no log for the address
+    abbrev pub SharesInto : {S : Type 0} {g : store.Ghosts S} → List ℕ → H → H → Registry S g → Registry S g → Ends → Type 0
+    SharesInto address old new it after ends = IsSharedAt address old new it after ends ⊎ ((why : NoLog) × k.rejects old new address why × (after ≡ it) × TellsNoLog why ends)
+
+module _ {H F I R W K : Type 0} (m : host.Ghosts H F I) (c : connections.Ghosts H R W) (r : source.Ghosts R) (w : sink.Ghosts W) (k : logs.Ghosts H K) (l : log.Ghosts K) where
+  -- connections of the machine were served over a log, at most so many, as `serve_shared` says
+  pub record AreServedOver {S : Type 0} {g : store.Ghosts S} (old new : H) (it after : Registry S g) (cursor cursor_new : Cursor K) (limit : ℕ) (end : Result (Unit {0}) SharedStop) : Type 0 where
+    pub served : (visits : List Visit) × (middle : H)
+        × HaveVisited c.opens c.closes r.remaining r.failures w.contents w.failures old middle visits
+        × desk.EndsConnections c.fails middle new end
+        × (length visits ≤ limit) × OnOk end (length visits ≡ limit)
+        × desk.IsToldLast visits (desk.stop_in end)
+        × ((lines : K → LogLines) → IsKept l lines → (h : History) → Follows l lines it cursor h → HasCleanDisk (state_of after) → desk.EndsOver l lines cursor after cursor_new h visits (desk.stop_in end))
+        × (is_poisoned it ≡ true → All desk.IsTurnedAwayAt visits × (after ≡ it) × (cursor_new ≡ cursor))
+    pub notes : NotesForeign it after (fault_behind (desk.stop_in end))
+    pub endures : Endures (state_of it) (state_of after)
+
+  -- the machine listened on this port, and connections to it were served
+  pub record IsServedOver {S : Type 0} {g : store.Ghosts S} (port limit : ℕ) (old new : H) (it after : Registry S g) (cursor : Cursor K) (ends : Ends) : Type 0 where
+    pub listening : H
+    pub listens : m.listens old listening port
+    pub done : H
+    pub left : Cursor K
+    pub end : Result (Unit {0}) SharedStop
+    pub served : AreServedOver listening done it after cursor left limit end
+    pub tells : TellsServed k done new (log_of left) end ends
+
+  -- that, or it could not listen
+  abbrev pub ServesJoined : {S : Type 0} {g : store.Ghosts S} → ℕ → ℕ → H → H → Registry S g → Registry S g → Cursor K → Ends → Type 0
+  ServesJoined port limit old new it after cursor ends = IsServedOver port limit old new it after cursor ends ⊎ (m.is_refused old new port × (after ≡ it) × IsSocketFailure ends)
+
+  -- what comes after the log was taken up, or not
+  abbrev pub GoesOnOver : {S : Type 0} {g : store.Ghosts S} → ℕ → ℕ → H → H → Registry S g → Registry S g → Result (Cursor K) (ShareStop × K) → Ends → Type 0
+  GoesOnOver port limit old new it after (Ok cursor) ends = ServesJoined port limit old new it after cursor ends
+  GoesOnOver port limit old new it after (Err left) ends = (after ≡ it) × k.leaves old new left.1 left.0 × TellsStop left.0 ends
+
+  -- the log at this address was taken up, as `join` says, and then the port was served
+  pub record IsJoinedAt {S : Type 0} {g : store.Ghosts S} (port limit : ℕ) (address : List ℕ) (old new : H) (it after : Registry S g) (ends : Ends) : Type 0 where
+    pub found : H
+    pub log : K
+    pub finds : k.finds old found address log
+    pub end : Result (Cursor K) (ShareStop × K)
+    pub middle : Registry S g
+    pub joins : TakesUp l it middle log end
+    pub asks : IsAskedFor l AppendsNothing log end
+    pub goes_on : GoesOnOver port limit found new middle after end ends
+
+  -- that, or there is no log for the address
+  abbrev pub ServesOver : {S : Type 0} {g : store.Ghosts S} → ℕ → ℕ → List ℕ → H → H → Registry S g → Registry S g → Ends → Type 0
+  ServesOver port limit address old new it after ends = IsJoinedAt port limit address old new it after ends ⊎ ((why : NoLog) × k.rejects old new address why × (after ≡ it) × TellsNoLog why ends)
+
+-- share STORE
+abbrev pub Shares : {H F I K : Type 0} → host.Ghosts H F I → disk.Ghosts F → logs.Ghosts H K → log.Ghosts K → H → H → List ℕ → List ℕ → Ends → Type 0
+Shares m d k l old new path address ends = Runs m d old new path ends (SharesInto k l address)
+
+-- serve STORE over a log
+abbrev pub ServesShared : {H F I R W K : Type 0} → host.Ghosts H F I → disk.Ghosts F → connections.Ghosts H R W → source.Ghosts R → sink.Ghosts W → logs.Ghosts H K → log.Ghosts K → H → H → List ℕ → ℕ → ℕ → List ℕ → Ends → Type 0
+ServesShared m d c r w k l old new path port limit address ends = Runs m d old new path ends (ServesOver m c r w k l port limit address)
