@@ -21,8 +21,8 @@ from lib.usbreg import TOP, content, done, folder, program, run, same
 
 # The programs that a page needs beside `usbreg`.
 NEEDED = {"README.md": ("curl", "sqlite3"), "docs/http.md": ("curl",)}
-# `usbreg serve` does not end, so its own example leaves it out.
-ENDLESS = "usbreg serve "
+# `usbreg serve` does not end, and `usbreg share` needs etcd, so their own examples leave them out.
+LEFT_OUT = ("usbreg serve ", "usbreg share ")
 STOPPED = "fault: file\n"
 
 
@@ -73,7 +73,7 @@ def run_helps(usbreg):
             sys.exit(f"usbreg {command} --help: there is no example of it in {lines}")
         with folder() as room, Shell(usbreg, room) as shell:
             for line in lines:
-                if not line.startswith(ENDLESS) and (ended := shell.run(f"{{ {line}; }} > /dev/null")) != (0, ""):
+                if not line.startswith(LEFT_OUT) and (ended := shell.run(f"{{ {line}; }} > /dev/null")) != (0, ""):
                     sys.exit(f"usbreg {command} --help: {line}: {ended}")
             count += len(lines)
     return count

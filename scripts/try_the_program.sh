@@ -35,6 +35,7 @@ beside=(
     run_page_examples.py
     try_the_package.py
     ask_etcd.py
+    serve_over_a_log.py
 )
 # These measure how long a server, nginx or a browser takes, or start machines of their own, so each has the machine alone.
 alone=(
@@ -43,6 +44,7 @@ alone=(
     serve_behind_nginx.py
     use_the_page.py
     restore_a_backup.py
+    share_three_machines.py
 )
 passed=0
 failed=0

@@ -1,0 +1,146 @@
+#!/usr/bin/env python3
+"""Serves two stores over one log in etcd, as two machines do, and compares what they answer and keep.
+
+The first store puts its record into the log (`usbreg share`), and the second one, which was founded alike, follows it. Eight
+clients send orders to both at once, and ask the other machine for what was accepted: an answer that is older than that
+ends the script. Then etcd is stopped for longer than a call waits: each message gets 503, and both servers go on once etcd does,
+with a repeat of the order under its key. In the end both stores have the same rows and the log has their record.
+
+Further it tries a store with another record, a store that is ahead of its log, an address where nobody listens and one that is
+none, each with the exit status and the line of its cause, and sharing a record a second time.
+
+Usage: scripts/serve_over_a_log.py [PATH/TO/USBREG]. If etcd is not installed, it says that it was skipped. The exit status is 0
+if all is as it should be."""
+
+import json
+import shutil
+import signal
+import sys
+import threading
+
+from lib.etcd import Members
+from lib.serving import HOST, Serving, command, exchange, free_port, get
+from lib.usbreg import FOUNDING, done, folder, program, run, same, write
+
+NAME = "numbers"
+CLIENTS, ORDERS = 8, 12
+OTHER = 'vendor = "1209"\nname = "Other products"\ncurators = ["cora"]\nlicences = ["MIT"]\nfixed = ["0001-0010"]\n'
+
+
+def parts(response):
+    """Returns the status of a response and its body."""
+    head, body = response.split(b"\r\n\r\n", 1)
+    return int(head.split(b" ", 2)[1]), body.decode()
+
+
+def enrol(index):
+    """Returns an order and what asks for what it makes."""
+    org = f"org{index}"
+    order = {"caller": "ann", "key": f"k{index}", "order": "enrol", "org": org, "title": f"Maker {index}", "site": "https://acme.example/"}
+    return order, f"/orgs/{org}"
+
+
+def served(usbreg, store, address):
+    """Returns a server of a store over a log."""
+    port = free_port()
+    return Serving([usbreg, "serve", store, "--port", str(port), "--log", address], port)
+
+
+def client(ports, first, wrong):
+    """Sends orders to one machine and asks the other, in turns."""
+    for index in range(first, first + ORDERS):
+        order, target = enrol(index)
+        here, there = ports[index % 2], ports[(index + 1) % 2]
+        told = parts(exchange(here, command(order)))
+        asked = parts(exchange(there, get(target)))
+        if told[0] != 200 or asked[0] != 200 or f'"title":"Maker {index}"' not in asked[1]:
+            wrong.append((index, told, asked))
+
+
+def beside_each_other(ports):
+    """Sends orders to both machines at once."""
+    wrong = []
+    threads = [threading.Thread(target=client, args=(ports, at * ORDERS, wrong)) for at in range(CLIENTS)]
+    for it in threads:
+        it.start()
+    for it in threads:
+        it.join()
+    same("orders and answers that are not as they should be", wrong, [])
+
+
+def same_number(ports):
+    """Lets two machines reserve one number at the same time, for an import each. One of them gets it."""
+    replies = []
+
+    def ask(port, org):
+        order = {"caller": "cora", "key": org, "order": "import", "org": org, "list": "1209  Shared products\n\t2000  Lamp\n"}
+        replies.append(parts(exchange(port, command(order)))[1])
+
+    threads = [threading.Thread(target=ask, args=(port, f"org{index}")) for index, port in enumerate(ports)]
+    for it in threads:
+        it.start()
+    for it in threads:
+        it.join()
+    fresh = sorted(json.loads(reply)["done"].split(",")[0] for reply in replies)
+    same("imports of one number at two machines", fresh, ["imported fresh 0", "imported fresh 1"])
+
+
+def without_etcd(ports, members):
+    """Stops etcd, and lets it go on."""
+    order, target = enrol(CLIENTS * ORDERS)
+    members.signal(signal.SIGSTOP)
+    for port in ports:
+        same("an order while etcd stands", parts(exchange(port, command(order)))[0], 503)
+        same("a query while etcd stands", parts(exchange(port, get(target)))[0], 503)
+    members.signal(signal.SIGCONT)
+    members.wait(0)
+    for port in ports:
+        same("the order once etcd goes on", parts(exchange(port, command(order))), (200, f'{{"done":"enrolled org{CLIENTS * ORDERS}"}}\n'))
+
+
+def fails(words, status, told):
+    """Runs a command that has to fail so."""
+    same(" ".join(words[1:]), run(words), (status, b"", told.encode()))
+
+
+def main():
+    """Serves two stores."""
+    usbreg = program(*sys.argv[1:])
+    if not shutil.which("etcd"):
+        print("SKIPPED: etcd is not installed, so no store was served over a log")
+        return
+    with folder() as room, Members(room, 1) as members:
+        members.wait(0)
+        address = members.address(0, NAME)
+        stores = [f"{room}/{name}.db" for name in ("a", "b")]
+        for store in stores:
+            done([usbreg, "found", store, FOUNDING])
+        same("sharing", done([usbreg, "share", stores[0], "--log", address]), b"")
+        with served(usbreg, stores[0], address) as one, served(usbreg, stores[1], address) as two:
+            ports = [one.up().port, two.up().port]
+            beside_each_other(ports)
+            same_number(ports)
+            without_etcd(ports, members)
+            one.kill()
+            two.kill()
+        for store in stores:
+            same("sharing again", done([usbreg, "share", store, "--log", address]), b"")
+        records = [done([usbreg, "history", store]).decode() for store in stores]
+        same("the record of the second store", records[1], records[0])
+        same("the lines of the log", "".join(f"{line}\n" for line in members.lines(0, NAME)), records[0])
+        same("the requests of the record", records[0].count("\n"), CLIENTS * ORDERS + 4)
+        other = f"{room}/c.db"
+        done([usbreg, "found", other, write(f"{room}/other.toml", OTHER)])
+        fails([usbreg, "share", other, "--log", address, "--verbose"], 1, f"fault: log\nusbreg: {address}: has another record than the store, from line 0 on\n")
+        fails([usbreg, "serve", other, "--port", str(free_port()), "--log", address], 1, "fault: log\n")
+        empty = members.address(0, "none")
+        fails([usbreg, "serve", stores[0], "--port", str(free_port()), "--log", empty, "--verbose"], 1, f"fault: log\nusbreg: {empty}: has fewer lines than the record of the store\n")
+        nobody = f"http://{HOST}:{free_port()}/{NAME}"
+        fails([usbreg, "share", other, "--log", nobody, "--verbose"], 1, f"fault: log\nusbreg: {nobody}: takes no connection\n")
+        hint = "usbreg: the address of a log is http://HOST:PORT/NAME, where NAME is a slug\n"
+        fails([usbreg, "share", other, "--log", f"{HOST}/{NAME}", "--verbose"], 2, f"bad word: log\n{hint}")
+    print(f"{CLIENTS * ORDERS + 3} orders at two machines over one log")
+
+
+if __name__ == "__main__":
+    main()
