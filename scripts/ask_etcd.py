@@ -15,7 +15,6 @@ agree."""
 import json
 import re
 import shutil
-import signal
 import sys
 import tempfile
 
@@ -89,8 +88,7 @@ def compared(members, group):
 
 def without_a_quorum(members):
     """Looks at what a member answers that is alone."""
-    for process in members.processes[1:]:
-        process.send_signal(signal.SIGSTOP)
+    members.stop(1, 2)
     status, body = members.post(0, PATHS["page"], json.dumps({"key": in_base64(b"reg/0000000000")}))
     if (status, json.loads(body)["error"]) != (503, "etcdserver: request timed out"):
         print(f"FAILED: without a quorum etcd answers {status} {body}")

@@ -14,7 +14,6 @@ if all is as it should be."""
 
 import json
 import shutil
-import signal
 import sys
 import threading
 
@@ -88,11 +87,11 @@ def same_number(ports):
 def without_etcd(ports, members):
     """Stops etcd, and lets it go on."""
     order, target = enrol(CLIENTS * ORDERS)
-    members.signal(signal.SIGSTOP)
+    members.stop(0)
     for port in ports:
         same("an order while etcd stands", parts(exchange(port, command(order)))[0], 503)
         same("a query while etcd stands", parts(exchange(port, get(target)))[0], 503)
-    members.signal(signal.SIGCONT)
+    members.go_on(0)
     members.wait(0)
     for port in ports:
         same("the order once etcd goes on", parts(exchange(port, command(order))), (200, f'{{"done":"enrolled org{CLIENTS * ORDERS}"}}\n'))

@@ -3,6 +3,8 @@
 import base64
 import http.client
 import json
+import os
+import signal
 import subprocess
 import sys
 import time
@@ -69,10 +71,16 @@ class Members:
         """Returns the address of a log at a member, as `--log` has it."""
         return f"http://{HOST}:{self.ports[index]}/{name}"
 
-    def signal(self, *what):
-        """Sends a signal to each member."""
-        for process in self.processes:
-            process.send_signal(*what)
+    def stop(self, *indexes):
+        """Stops these members, and waits until they stand: until then one may still answer the others."""
+        for index in indexes:
+            process = self.processes[index]
+            process.send_signal(signal.SIGSTOP)
+            os.waitpid(process.pid, os.WUNTRACED)
+
+    def go_on(self, *indexes):
+        for index in indexes:
+            self.processes[index].send_signal(signal.SIGCONT)
 
     def lines(self, index, name):
         """Returns the lines of a log."""
