@@ -14,7 +14,7 @@ from lib.stopping import kill
 
 PATHS = {"append": "/v3/kv/txn", "page": "/v3/kv/range", "head": "/v3/kv/range", "login": "/v3/auth/authenticate"}
 SECONDS = 60
-# As docs/operating.md starts it: an import is one long line.
+# As in contrib/etcd: an import is one long line.
 LIMITS = ["--max-request-bytes", "16777216"]
 
 
