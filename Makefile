@@ -60,7 +60,7 @@ install-service:
 	@set -e; put() { $(PLACED) "contrib/$$2" > "$$3/$$2"; chmod "$$1" "$$3/$$2"; }; \
 	for it in $(PROGRAMS); do put 755 $$it "$(DESTDIR)$(PREFIX)/lib/usbreg"; done; \
 	for it in hwdb.awk record_files.py; do put 644 $$it "$(DESTDIR)$(PREFIX)/lib/usbreg"; done; \
-	for it in nginx.conf nginx-between.conf firewall.nft settings etcd; do put 644 $$it "$(DESTDIR)$(PREFIX)/share/usbreg"; done; \
+	for it in nginx.conf nginx-between.conf nginx-shared.conf firewall.nft settings etcd; do put 644 $$it "$(DESTDIR)$(PREFIX)/share/usbreg"; done; \
 	for it in $$(cd contrib && ls *.service *.timer); do put 644 $$it "$(DESTDIR)$(UNITS)"; done
 	@set -e; put() { install -D -m "$$1" "$$2" "$(DESTDIR)$(PREFIX)/share/usbreg/$${2#scripts/}"; }; \
 	for it in scripts/users/*.py scripts/users/*.tsv scripts/lib/usbreg.py; do if [ -x $$it ]; then put 755 $$it; else put 644 $$it; fi; done

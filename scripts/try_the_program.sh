@@ -40,6 +40,7 @@ beside=(
 # These measure how long a server, nginx or a browser takes, or start machines of their own, so each has the machine alone.
 alone=(
     walk_the_pages.py
+    walk_sharing.py
     talk_to_the_desk.py
     serve_behind_nginx.py
     use_the_page.py

@@ -22,10 +22,27 @@ mkdir /mnt/upper /mnt/work /mnt/root /mnt/groups
 mount -t overlay overlay -o lowerdir=/,upperdir=/mnt/upper,workdir=/mnt/work /mnt/root
 mount -t cgroup2 cgroup2 /mnt/groups
 """
+# A machine has a control group of its own, which is the highest one that it sees: the services of two machines have the same names.
+BEGIN = r"""
+set -e
+mount --make-rprivate /
+mount -t cgroup2 cgroup2 "$1/groups"
+mkdir -p "$1/groups/$3"
+echo 0 > "$1/groups/$3/cgroup.procs"
+umount "$1/groups"
+exec unshare --cgroup bash -c "$4" boot "$1" "$2"
+"""
+END = r"""
+mount -t cgroup2 cgroup2 /mnt
+tries=0
+while [ -e "/mnt/$1" ] && [ "$tries" -lt 20 ]; do
+    find "/mnt/$1" -depth -type d -exec rmdir {} + 2> /dev/null || sleep 0.1
+    tries=$((tries + 1))
+done
+"""
 BOOT = r"""
 set -e
 top=$1 name=$2 root=$1/root
-mount --make-rprivate /
 mount -t overlay overlay -o lowerdir=/,upperdir=$top/upper,workdir=$top/work $root
 mount -t proc proc $root/proc
 mount -o bind,ro $root/proc/sys $root/proc/sys
@@ -81,13 +98,14 @@ class Booted:
 
     def __init__(self, room, name, number):
         self.top, self.name, self.address = f"{room}/{name}", name, f"10.77.0.{number}"
-        for it in ("upper/usr/local/sbin", "upper/etc", "work", "root"):
+        self.group = f"usbreg-{os.getpid()}-{os.path.basename(room)}-{name}"
+        for it in ("upper/usr/local/sbin", "upper/etc", "work", "root", "groups"):
             os.makedirs(f"{self.top}/{it}")
         os.chmod(write(f"{self.top}/upper/usr/local/sbin/apt-get", APT_GET), 0o755)
         write(f"{self.top}/upper/etc/fstab", "")
 
     def __enter__(self):
-        words = [*UNSHARE, "bash", "-c", BOOT, "boot", self.top, self.name]
+        words = [*UNSHARE, "bash", "-c", BEGIN, "begin", self.top, self.name, self.group, BOOT]
         self.log = open(f"{self.top}/log", "wb")
         self.outer = subprocess.Popen(words, stdin=subprocess.DEVNULL, stdout=self.log, stderr=self.log, start_new_session=True)
         until = time.monotonic() + PATIENCE
@@ -101,6 +119,7 @@ class Booted:
         """Ends it like a power cut: all its processes are killed."""
         kill(self.outer)
         self.log.close()
+        subprocess.run(["unshare", "--mount", "sh", "-c", END, "end", self.group], check=False)
 
     def is_up(self):
         children = content(f"/proc/{self.outer.pid}/task/{self.outer.pid}/children").split()
@@ -146,3 +165,15 @@ def wire(one, other):
     subprocess.run(["ip", "link", "add", "wire", "netns", one.pid, "type", "veth", "peer", "name", "wire", "netns", other.pid], check=True)
     for it in (one, other):
         it.must_run(f"ip address add {it.address}/24 dev wire; ip link set wire up")
+
+
+def join(one, other):
+    """Connects two of several machines. Each has the same address on all its wires."""
+    ends = (one, other, f"to-{other.name}"), (other, one, f"to-{one.name}")
+    # The wire of a machine that was killed stays as long as a connection of it waits.
+    for it, _, name in ends:
+        it.must_run(f"! ip link show {name} > /dev/null 2>&1 || ip link delete {name}")
+    names = [["netns", it.pid, "name", name] for it, _, name in ends]
+    subprocess.run(["ip", "link", "add", *names[0], "type", "veth", "peer", *names[1]], check=True)
+    for it, its, name in ends:
+        it.must_run(f"ip address add {it.address} peer {its.address} dev {name}; ip link set {name} up")
