@@ -38,38 +38,11 @@ use Rattle.shared_registry.specs.Follows.{Follows, HasFollowed, IsAnswered, IsLe
 use Rattle.shared_registry.specs.declared.cursor.Cursor.{Cursor}
 use Rattle.shared_registry.specs.declared.stop.ShareStop.{ShareStop}
 use Rattle.shared_registry.specs.declared.stop.ShareStop.TheVariants as stops
+use Rattle.shared_registry.proofs.ActLemmas.{longer_by, unmoved}
 use Rattle.shared_registry.proofs.FollowLemmas.{grows_none, still_follows}
 use Rattle.shared_registry.proofs.LineLemmas.{leads_nowhere, leads_on}
 use Rattle.shared_desk.specs.Answers.{Answers, IsUnanswered}
 use Rattle.shared_desk.specs.Refusals.{stop_of}
-
--- ---- a history to which requests lead has no fewer lines, and with as many it is the same
-
-longer_by : (h : History) (v : Verdict) → length (record_of h) ≤ length (record_of (after_verdict h v))
-longer_by h (Kept text) = omega arith
-longer_by h (Refused refusal) = omega arith
-longer_by h (New deed) = let is = ap length (record_with h deed) ∙ length-append (record_of h) (accepted_line (accepted_by deed) ∷ []) in omega (arith, is)
-
-longer : (h : History) (requests : List Request) → length (record_of h) ≤ length (record_of (after h requests))
-longer h [] = omega arith
-longer h (r ∷ requests) = let one = longer_by h (verdict h r) in let more = longer (after_one h r) requests in omega (arith, one, more)
-
-same_by : (h : History) (v : Verdict) → length (record_of (after_verdict h v)) ≤ length (record_of h) → after_verdict h v ≡ h
-same_by h (Kept text) short = refl
-same_by h (Refused refusal) short = refl
-same_by h (New deed) short = let is = ap length (record_with h deed) ∙ length-append (record_of h) (accepted_line (accepted_by deed) ∷ []) in absurd (omega (arith, is, short))
-
-same_after : (h : History) (requests : List Request) → length (record_of (after h requests)) ≤ length (record_of h) → after h requests ≡ h
-same_after h [] short = refl
-same_after h (r ∷ requests) short =
-    let one = longer_by h (verdict h r) in
-    let more = longer (after_one h r) requests in
-    same_after (after_one h r) requests (omega (arith, short, one)) ∙ same_by h (verdict h r) (omega (arith, short, more))
-
-pub unmoved : (h x : History) → LeadsTo h x → length (record_of x) ≤ length (record_of h) → x ≡ h
-unmoved h x leads short =
-    let is = ap (λ (y : History). length (record_of y)) leads.1 in
-    leads.1 ∙ same_after h leads.0 (omega (arith, is, short))
 
 -- ---- the texts that stay cached
 

@@ -9,7 +9,7 @@ use Rattle.shared_log.specs.Calls.{Grows, LogLines}
 use Rattle.shared_registry.proofs.FollowLemmas.{grows_none, grows_on}
 use Rattle.shared_registry.proofs.LineLemmas.{leads_nowhere}
 use Rattle.shared_desk.specs.Laws.{IsNoOlder}
-use Rattle.shared_desk.proofs.AnswerLemmas.{unmoved}
+use Rattle.shared_registry.proofs.ActLemmas.{unmoved}
 
 grows_longer : (a b : LogLines) → Grows a b → length a ≤ length b
 grows_longer a b it = let is = ap length it.1 ∙ length-append a it.0 in omega (arith, is)

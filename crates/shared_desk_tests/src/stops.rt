@@ -66,8 +66,8 @@ fn found_and_serve<S: Alter + Drop>(
     }
 }
 
-// The read before the first order is lost, and the append of the second one gets no answer, but takes effect. The server goes
-// on after both.
+// The append of the first order is lost, and that of the second one gets no answer, but takes effect. The server goes on after
+// both.
 #[test]
 fn goes_on_without_an_answer(rt: HostRuntime) -> Result<(), Fail> {
     let alloc = rt.alloc();
@@ -76,7 +76,6 @@ fn goes_on_without_an_answer(rt: HostRuntime) -> Result<(), Fail> {
     // (the last one is that of the first call, by which the registry takes up the log)
     let fates = vec![in alloc;
         Fate::Forgets,
-        Fate::Answers,
         Fate::Answers,
         Fate::Loses,
         Fate::Answers,

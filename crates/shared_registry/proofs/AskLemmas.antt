@@ -12,7 +12,8 @@ use Rattle.shared_registry.specs.declared.cursor.AppendFault.{AppendFault}
 use Rattle.shared_registry.specs.declared.cursor.AppendFault.TheVariants as faults
 use Rattle.shared_registry.specs.declared.cursor.Cursor.{Cursor}
 use Rattle.shared_registry.specs.Asks.{AppendsLines, AppendsNothing, AppendsRequest, AreCalls, IsAsked, IsCall}
-use Rattle.shared_registry.specs.Cursors.{HasLine, HasNoLine, WasShown, WasNotTaken, accepted_as}
+use Rattle.shared_registry.proofs.AppendLemmas.{did_not_take, took_line}
+use Rattle.shared_registry.specs.Cursors.{HasLine, HasNoLine, HasNoNewLine, WasShown, WasNotTaken, accepted_as}
 
 module _ {L : Type 0} (l : LogGhosts L) (May : ℕ → List ℕ → Type 0) where
   pub asked_nothing : (a : L) → IsAsked l May a a
@@ -45,8 +46,8 @@ module _ {L : Type 0} (l : LogGhosts L) (May : ℕ → List ℕ → Type 0) wher
         | inr is ↦ asked_once c.log c_new.log (inr (inl (c.next, line, answers.Taken line, may, is)))
       ]
 
-  pub asked_no_line : (c c_new : Cursor L) (line : List ℕ) (fault : AppendFault) → May c.next line → HasNoLine l c c_new line fault → IsAsked l May c.log c_new.log
-  asked_no_line c c_new line faults.Taken may it = asked_once c.log c_new.log (inr (inl (c.next, line, answers.Taken it.0.0, may, it.0.2)))
+  pub asked_no_line : (c c_new : Cursor L) (line : List ℕ) (fault : AppendFault) → May c.next line → HasNoNewLine l c c_new line fault → IsAsked l May c.log c_new.log
+  asked_no_line c c_new line faults.Taken may it = asked_once c.log c_new.log (inr (inl (c.next, line, answers.Taken it.0.0, may, it.0.1)))
   asked_no_line c c_new line faults.Behind may it = asked_once c.log c_new.log (inr (inl (c.next, line, answers.Behind, may, it.0)))
   asked_no_line c c_new line faults.Full may it = subst (λ (d : Cursor L). IsAsked l May c.log d.log) (sym it.0) (asked_nothing c.log)
   asked_no_line c c_new line faults.NoMemory may it = subst (λ (d : Cursor L). IsAsked l May c.log d.log) (sym it) (asked_nothing c.log)
@@ -80,12 +81,12 @@ module _ {L : Type 0} (l : LogGhosts L) (these : LogLines) (start c c_new : Curs
   asked_next has = asked_then l (AppendsLines these start.next) start.log c.log c_new.log so_far (asked_line l (AppendsLines these start.next) c c_new line is_next has)
 
   pub asked_no_next : (fault : AppendFault) → HasNoLine l c c_new line fault → IsAsked l (AppendsLines these start.next) start.log c_new.log
-  asked_no_next fault it = asked_then l (AppendsLines these start.next) start.log c.log c_new.log so_far (asked_no_line l (AppendsLines these start.next) c c_new line fault is_next it)
+  asked_no_next fault it = asked_then l (AppendsLines these start.next) start.log c.log c_new.log so_far (asked_no_line l (AppendsLines these start.next) c c_new line fault is_next (did_not_take l c c_new line fault it))
 
 module _ {L : Type 0} (l : LogGhosts L) (c c_new : Cursor L) (r : Request) where
   -- a request was shown to the cursor, or was to be
   pub asked_shown : (text : List ℕ) → WasShown l c c_new r text → IsAsked l (AppendsRequest r) c.log c_new.log
-  asked_shown text it = asked_line l (AppendsRequest r) c c_new (accepted_line (accepted_as r text)) (text, refl) it.line
+  asked_shown text it = asked_line l (AppendsRequest r) c c_new (accepted_line (accepted_as r text)) (text, refl) (took_line l c c_new _ it.line)
 
   pub asked_unshown : (text : List ℕ) (fault : AppendFault) → WasNotTaken l c c_new r text fault → IsAsked l (AppendsRequest r) c.log c_new.log
   asked_unshown text fault it = asked_no_line l (AppendsRequest r) c c_new (accepted_line (accepted_as r text)) fault (text, refl) it

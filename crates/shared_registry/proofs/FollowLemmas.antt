@@ -38,7 +38,7 @@ use Rattle.shared_registry.specs.declared.cursor.Cursor.{Cursor}
 use Rattle.shared_registry.specs.declared.stop.ShareStop.{ShareStop}
 use Rattle.shared_registry.specs.declared.stop.ShareStop.TheVariants as stops
 use Rattle.shared_registry.specs.Cursors.{HasLine, HasNoLine, WasShown, accepted_as}
-use Rattle.shared_registry.specs.Follows.{Follows, FollowsLater, HasActed, HasFailed, HasFollowed, HasFollowedPage, IsAnswered, IsLeft}
+use Rattle.shared_registry.specs.Follows.{Follows, FollowsLater, HasFailed, HasFollowed, HasFollowedPage, HasGoneOn, IsLeft}
 use Rattle.shared_registry.specs.Lines.{Continues, GoesOver, IsStoppedBefore, IsStoppedIn}
 use Rattle.shared_registry.proofs.LineLemmas.{after_new, continued, leads_nowhere, leads_on, over_one}
 
@@ -49,10 +49,6 @@ grows_none log = ([], sym (append-nil log))
 
 pub grows_on : (a b c : LogLines) → Grows a b → Grows b c → Grows a c
 grows_on a b c one two = (one.0 ++ two.0, two.1 ∙ ap (λ (l : LogLines). l ++ two.0) one.1 ∙ appended_twice a one.0 two.0)
-
--- with one more line the list has grown
-grows_by : (log : LogLines) (line : List ℕ) (new : LogLines) → Grows (log ++ line ∷ []) new → Grows log new
-grows_by log line new it = grows_on log (log ++ line ∷ []) new (line ∷ [], refl) it
 
 pub no_lines : (xs : LogLines) → nat_eq (length xs) 0 ≡ true → xs ≡ []
 no_lines [] is = refl
@@ -75,13 +71,7 @@ line_behind : (front more : LogLines) (line : List ℕ) → slice_get (front ++ 
 line_behind [] more line = refl
 line_behind (f ∷ front) more line = line_behind front more line
 
--- a list with this line behind a beginning goes on with it
-with_line : (front more : LogLines) (line : List ℕ) → slice_get (front ++ more) (length front) ≡ Some line → (rest : LogLines) × (front ++ more ≡ (front ++ line ∷ []) ++ rest)
-with_line [] [] line at = absurd (let none : None ≡ Some line = at in cc)
-with_line [] (m ∷ more) line at = (more, (let same : m ≡ line = cc in ap (λ (l : List ℕ). l ∷ more) same))
-with_line (f ∷ front) more line at = let it = with_line front more line at in (it.0, ap (λ (l : LogLines). f ∷ l) it.1)
-
-longer : (a b : LogLines) → Grows a b → length a ≤ length b
+pub longer : (a b : LogLines) → Grows a b → length a ≤ length b
 longer a b it = let same : length b ≡ length a + length it.0 = ap length it.1 ∙ length-append a it.0 in omega (arith, same)
 
 -- the property held at an instant of a longer call
@@ -156,76 +146,6 @@ module _ {L : Type 0} (l : LogGhosts L) (lines : L → LogLines) where
   -- a call that failed later
   pub failed_since : (start c : L) (now : L) (fault : LogFault) → Grows (lines start) (lines c) → HasFailed l lines c now fault → HasFailed l lines start now fault
   failed_since start c now fault grown it = record { old = it.old; grown = grows_on (lines start) (lines c) (lines it.old) grown it.grown; failed = it.failed }
-
-  -- ---- an append
-
-  append_grows : (n : ℕ) (line : List ℕ) (answer : _) (old new : LogLines) → AppendMeans n line answer old new → Grows old new
-  append_grows n line answers.Appended old new it = grows_on old it.instant new it.before (grows_by it.instant line new it.after)
-  append_grows n line (answers.Taken other) old new it = at_instant_grows old new (λ log. slice_get log n ≡ Some other) it
-  append_grows n line answers.Behind old new it = at_instant_grows old new (λ log. length log < n) it
-
-  module _ (kept : IsKept l lines) (c c_new : Cursor L) where
-    pub line_grows : (line : List ℕ) → HasLine l c c_new line → Grows (lines c.log) (lines c_new.log)
-    line_grows line it = elim it.told [
-      | inl appended ↦ append_grows c.next line answers.Appended _ _ (kept.appends c.log c_new.log c.next line answers.Appended appended)
-      | inr taken ↦ append_grows c.next line (answers.Taken line) _ _ (kept.appends c.log c_new.log c.next line (answers.Taken line) taken)
-    ]
-
-    same_grows : c_new ≡ c → Grows (lines c.log) (lines c_new.log)
-    same_grows same = subst (λ (d : Cursor L). Grows (lines c.log) (lines d.log)) (sym same) (grows_none (lines c.log))
-
-    pub no_line_grows : (line : List ℕ) (fault : _) → HasNoLine l c c_new line fault → Grows (lines c.log) (lines c_new.log)
-    no_line_grows line faults.Taken it = append_grows c.next line (answers.Taken it.0.0) _ _ (kept.appends c.log c_new.log c.next line (answers.Taken it.0.0) it.0.2)
-    no_line_grows line faults.Behind it = append_grows c.next line answers.Behind _ _ (kept.appends c.log c_new.log c.next line answers.Behind it.0)
-    no_line_grows line faults.Full it = same_grows it.0
-    no_line_grows line faults.NoMemory it = same_grows it
-    no_line_grows line (faults.Log fault) it = kept.fails c.log c_new.log it.0
-
-    pub no_line_next : (line : List ℕ) (fault : _) → HasNoLine l c c_new line fault → c_new.next ≡ c.next
-    no_line_next line faults.Taken it = ap (λ (d : Cursor L). d.next) it.1
-    no_line_next line faults.Behind it = ap (λ (d : Cursor L). d.next) it.1
-    no_line_next line faults.Full it = ap (λ (d : Cursor L). d.next) it.0
-    no_line_next line faults.NoMemory it = ap (λ (d : Cursor L). d.next) it
-    no_line_next line (faults.Log fault) it = ap (λ (d : Cursor L). d.next) it.1
-
-    -- the log begins with these lines, and the next one is behind them
-    module _ (front : LogLines) (begins : Grows front (lines c.log)) (next : c.next ≡ length front) where
-      from_here : (instant : LogLines) → Grows (lines c.log) instant → Grows front instant
-      from_here instant grown = grows_on front (lines c.log) instant begins grown
-
-      -- the log goes on with the line that it took
-      pub line_taken : (line : List ℕ) → HasLine l c c_new line → Grows (front ++ line ∷ []) (lines c_new.log)
-      line_taken line it = elim it.told [
-        | inl appended ↦ (
-            let means = kept.appends c.log c_new.log c.next line answers.Appended appended in
-            let more = from_here means.instant means.before in
-            let long : length (front ++ more.0) ≡ length front = ap length (sym more.1) ∙ means.next ∙ next in
-            let whole : means.instant ≡ front = more.1 ∙ whole_beginning front more.0 long in
-            subst (λ (log : LogLines). Grows (log ++ line ∷ []) (lines c_new.log)) whole means.after
-            )
-        | inr taken ↦ (
-            let means = kept.appends c.log c_new.log c.next line (answers.Taken line) taken in
-            let more = from_here means.instant means.before in
-            let at : slice_get (front ++ more.0) (length front) ≡ Some line = ap (λ (log : LogLines). slice_get log (length front)) (sym more.1) ∙ ap (slice_get means.instant) (sym next) ∙ means.held in
-            let on = with_line front more.0 line at in
-            grows_on (front ++ line ∷ []) means.instant (lines c_new.log) (on.0, more.1 ∙ on.1) means.after
-            )
-      ]
-
-      -- another line is behind them
-      pub other_is_there : (line : List ℕ) → HasNoLine l c c_new line faults.Taken → length front < length (lines c_new.log)
-      other_is_there line it =
-          let means = kept.appends c.log c_new.log c.next line (answers.Taken it.0.0) it.0.2 in
-          let within = slice_get_within means.instant c.next it.0.0 means.held in
-          let long = longer means.instant (lines c_new.log) means.after in
-          omega (arith, within, long, next)
-
-      -- the log has them, so it is not behind
-      pub is_not_behind : (line : List ℕ) → HasNoLine l c c_new line faults.Behind → ⊥
-      is_not_behind line it =
-          let means = kept.appends c.log c_new.log c.next line answers.Behind it.0 in
-          let long = longer front means.instant (from_here means.instant means.before) in
-          omega (arith, means.held, long, next)
 
 module _ {S : Type 0} {g : Ghosts S} {L : Type 0} (l : LogGhosts L) (lines : L → LogLines) where
   -- a whole page was acted on
@@ -324,17 +244,10 @@ module _ {S : Type 0} {g : Ghosts S} {L : Type 0} (l : LogGhosts L) (lines : L �
   left_since start c new c_new h now grown leads stops.Full it = ((it.0.0, leads_on h now it.0.0 leads it.0.1, it.0.2), it.1)
   left_since start c new c_new h now grown leads stops.NoMemory it = (it.0, leads_on h now it.0 leads it.1, it.2)
 
-  -- the calls so far: the registry follows a later history
-  pub record HasGoneOn (start : Cursor L) (it : Registry S g) (c : Cursor L) (h : History) : Type 0 where
-    pub now : History
-    pub leads : LeadsTo h now
-    pub follows : Follows l lines it c now
-    pub grown : Grows (lines start.log) (lines c.log)
-
-  pub gone_nowhere : (it : Registry S g) (c : Cursor L) (h : History) → Follows l lines it c h → HasGoneOn c it c h
+  pub gone_nowhere : (it : Registry S g) (c : Cursor L) (h : History) → Follows l lines it c h → HasGoneOn l lines c it c h
   gone_nowhere it c h follows = record { now = h; leads = leads_nowhere h; follows = follows; grown = grows_none (lines c.log) }
 
-  pub gone_on : (start c : Cursor L) (it new : Registry S g) (c_new : Cursor L) (h : History) (more : Bool) → (so_far : HasGoneOn start it c h) → HasFollowedPage l lines c new c_new so_far.now more → HasGoneOn start new c_new h
+  pub gone_on : (start c : Cursor L) (it new : Registry S g) (c_new : Cursor L) (h : History) (more : Bool) → (so_far : HasGoneOn l lines start it c h) → HasFollowedPage l lines c new c_new so_far.now more → HasGoneOn l lines start new c_new h
   gone_on start c it new c_new h more so_far page = record {
     now = page.now;
     leads = leads_on h so_far.now page.now so_far.leads page.leads;
@@ -342,7 +255,7 @@ module _ {S : Type 0} {g : Ghosts S} {L : Type 0} (l : LogGhosts L) (lines : L �
     grown = grows_on (lines start.log) (lines c.log) (lines c_new.log) so_far.grown page.grown;
   }
 
-  pub all_followed : (start c : Cursor L) (it new : Registry S g) (c_new : Cursor L) (h : History) → (so_far : HasGoneOn start it c h) → HasFollowedPage l lines c new c_new so_far.now false → HasFollowed l lines start new c_new h
+  pub all_followed : (start c : Cursor L) (it new : Registry S g) (c_new : Cursor L) (h : History) → (so_far : HasGoneOn l lines start it c h) → HasFollowedPage l lines c new c_new so_far.now false → HasFollowed l lines start new c_new h
   all_followed start c it new c_new h so_far page = record {
     now = page.now;
     leads = leads_on h so_far.now page.now so_far.leads page.leads;
@@ -350,23 +263,10 @@ module _ {S : Type 0} {g : Ghosts S} {L : Type 0} (l : LogGhosts L) (lines : L �
     whole = earlier_start (lines start.log) (lines c.log) (lines c_new.log) (λ log. log ≡ record_of page.now) so_far.grown (page.whole refl);
   }
 
-  pub left_later : (start c : Cursor L) (it new : Registry S g) (c_new : Cursor L) (h : History) → (so_far : HasGoneOn start it c h) → (stop : ShareStop) → IsLeft l lines c new c_new so_far.now stop → IsLeft l lines start new c_new h stop
+  pub left_later : (start c : Cursor L) (it new : Registry S g) (c_new : Cursor L) (h : History) → (so_far : HasGoneOn l lines start it c h) → (stop : ShareStop) → IsLeft l lines c new c_new so_far.now stop → IsLeft l lines start new c_new h stop
   left_later start c it new c_new h so_far stop it_left = left_since start c new c_new h so_far.now so_far.grown so_far.leads stop it_left
 
-  pub left_after : (start : Cursor L) (it : Registry S g) (c : Cursor L) (new : Registry S g) (c_new : Cursor L) (h : History) → (followed : HasFollowed l lines start it c h) → (stop : ShareStop) → IsLeft l lines c new c_new followed.now stop → IsLeft l lines start new c_new h stop
-  left_after start it c new c_new h followed stop it_left =
-      left_since start c new c_new h followed.now (at_instant_grows (lines start.log) (lines c.log) (λ log. log ≡ record_of followed.now) followed.whole) followed.leads stop it_left
-
-  -- another line was under the next number
-  pub after_other : (start : Cursor L) (it : Registry S g) (c : Cursor L) (new : Registry S g) (c_new : Cursor L) (h : History) (r : Request) → (followed : HasFollowed l lines start it c h) → HasActed l lines c new c_new followed.now r None → HasGoneOn start new c_new h
-  after_other start it c new c_new h r followed other = record {
-    now = followed.now;
-    leads = followed.leads;
-    follows = other.0;
-    grown = grows_on (lines start.log) (lines c.log) (lines c_new.log) (at_instant_grows (lines start.log) (lines c.log) (λ log. log ≡ record_of followed.now) followed.whole) other.1;
-  }
-
-  pub followed_again : (start : Cursor L) (it : Registry S g) (c : Cursor L) (new : Registry S g) (c_new : Cursor L) (h : History) → (so_far : HasGoneOn start it c h) → HasFollowed l lines c new c_new so_far.now → HasFollowed l lines start new c_new h
+  pub followed_again : (start : Cursor L) (it : Registry S g) (c : Cursor L) (new : Registry S g) (c_new : Cursor L) (h : History) → (so_far : HasGoneOn l lines start it c h) → HasFollowed l lines c new c_new so_far.now → HasFollowed l lines start new c_new h
   followed_again start it c new c_new h so_far followed = record {
     now = followed.now;
     leads = leads_on h so_far.now followed.now so_far.leads followed.leads;
@@ -383,98 +283,3 @@ module _ {S : Type 0} {g : Ghosts S} {L : Type 0} (l : LogGhosts L) (lines : L �
       let here = follows.next in
       let there = followed.follows.next in
       omega (arith, more, long, count, here, there)
-
-  pub answered : (start : Cursor L) (it : Registry S g) (c : Cursor L) (new : Registry S g) (c_new : Cursor L) (h : History) (r : Request) (reply : Reply) → (followed : HasFollowed l lines start it c h) → HasActed l lines c new c_new followed.now r (Some reply)
-      → IsAnswered l lines start new c_new h r reply
-  answered start it c new c_new h r reply followed acted = record {
-    before = followed.now;
-    leads = followed.leads;
-    whole = later_end (lines start.log) (lines c.log) (lines c_new.log) (λ log. log ≡ record_of followed.now) followed.whole acted.1;
-    reply_is = acted.2;
-    follows = acted.0;
-  }
-
-  -- ---- a request
-
-  module _ (kept : IsKept l lines) (old : Registry S g) (c : Cursor L) (new : Registry S g) (c_new : Cursor L) (h : History) (r : Request) (follows : Follows l lines old c h) where
-    over_shown : (deed : Deed) → verdict h r ≡ New deed → (shown : WasShown l c c_new r (act_text deed.act)) → GoesOver h (accepted_line (accepted_as r (act_text deed.act)) ∷ []) (with_deed h deed)
-    over_shown deed is shown = over_one h r (accepted_line (accepted_as r (act_text deed.act))) (with_deed h deed) (continued h r deed _ is shown.valid refl)
-
-    shown_of : (deed : Deed) → verdict h r ≡ New deed → WasShown l c c_new r (act_text deed.act) → IsOfMachine (lines c_new.log) (with_deed h deed)
-    shown_of deed is shown =
-        of_machine (lines c.log) (lines c_new.log) h (with_deed h deed) _ follows.of_machine (over_shown deed is shown) (line_taken l lines kept c c_new (record_of h) follows.of_machine.begins follows.next _ shown.line)
-
-    shown_next : (deed : Deed) → verdict h r ≡ New deed → WasShown l c c_new r (act_text deed.act) → c_new.next ≡ length (record_of (with_deed h deed))
-    shown_next deed is shown =
-        let passed : c_new.next ≡ suc c.next = ap (λ (d : Cursor L). d.next) shown.line.passed in
-        let long : length (record_of (with_deed h deed)) ≡ length (record_of h) + 1 = ap length (over_shown deed is shown).written ∙ length-append (record_of h) (accepted_line (accepted_as r (act_text deed.act)) ∷ []) in
-        omega (arith, passed, long, follows.next)
-
-    -- the call of the witness, if the request is new
-    abbrev pub WasAskedIfNew : (Deed → Type 0) → Type 0
-    WasAskedIfNew Heard = (c_new ≡ c) ⊎ ((deed : Deed) × (verdict h r ≡ New deed) × Heard deed)
-
-    same_after : c_new ≡ c → Represents new h → Follows l lines new c_new h
-    same_after same stays = still_follows old c new c_new h follows stays (same_grows l lines kept c c_new same) (ap (λ (d : Cursor L). d.next) same)
-
-    not_new : (Heard : Deed → Type 0) (v : Verdict) → verdict h r ≡ v → ((deed : Deed) → v ≢ New deed) → WasAskedIfNew Heard → c_new ≡ c
-    not_new Heard v is other (inl same) = same
-    not_new Heard v is other (inr told) = absurd (other told.0 (sym is ∙ told.1))
-
-    acted_by : (v : Verdict) → verdict h r ≡ v → WasAskedIfNew (λ deed. WasShown l c c_new r (act_text deed.act)) → ((deed : Deed) → verdict h r ≡ New deed → WasShown l c c_new r (act_text deed.act))
-        → Represents new (after_one h r) → Follows l lines new c_new (after_one h r)
-    acted_by (Kept text) is asked shown now =
-        let at : after_one h r ≡ h = ap (after_verdict h) is in
-        subst (Follows l lines new c_new) (sym at) (same_after (not_new _ (Kept text) is (λ deed e. cc) asked) (subst (Represents new) at now))
-    acted_by (Refused refusal) is asked shown now =
-        let at : after_one h r ≡ h = ap (after_verdict h) is in
-        subst (Follows l lines new c_new) (sym at) (same_after (not_new _ (Refused refusal) is (λ deed e. cc) asked) (subst (Represents new) at now))
-    acted_by (New deed) is asked shown now =
-        let at = after_new h r deed is in
-        subst (Follows l lines new c_new) (sym at) (record { represents = subst (Represents new) at now; of_machine = shown_of deed is (shown deed is); next = shown_next deed is (shown deed is) })
-
-    pub acted : WasAskedIfNew (λ deed. WasShown l c c_new r (act_text deed.act)) → ((deed : Deed) → verdict h r ≡ New deed → WasShown l c c_new r (act_text deed.act))
-        → Represents new (after_one h r) → Follows l lines new c_new (after_one h r)
-    acted asked shown now = acted_by (verdict h r) refl asked shown now
-
-    pub grown_acted : WasAskedIfNew (λ deed. WasShown l c c_new r (act_text deed.act)) → Grows (lines c.log) (lines c_new.log)
-    grown_acted (inl same) = same_grows l lines kept c c_new same
-    grown_acted (inr (deed, is, shown)) = line_grows l lines kept c c_new _ shown.line
-
-    -- the request was not shown to a log that took its line, and all stays
-    pub unacted : (line : List ℕ) (fault : _) → HasNoLine l c c_new line fault → IsUntouched old new → Follows l lines new c_new h
-    unacted line fault it left =
-        still_follows old c new c_new h follows (left.stays h follows.represents) (no_line_grows l lines kept c c_new line fault it) (no_line_next l lines kept c c_new line fault it)
-
-    pub unacted_later : (line : List ℕ) (fault : _) → HasNoLine l c c_new line fault → IsUntouched old new → FollowsLater l lines new c_new h
-    unacted_later line fault it left = (h, leads_nowhere h, unacted line fault it left)
-
-    pub failed_now : (line : List ℕ) (fault : LogFault) → HasNoLine l c c_new line (faults.Log fault) → HasFailed l lines c.log c_new.log fault
-    failed_now line fault it = record { old = c.log; grown = grows_none (lines c.log); failed = inl it.0 }
-
-    -- a fault of the registry: the witness may have seen the request
-    grown_by_fault : WasAskedIfNew (λ deed. (c_new ≡ c) ⊎ WasShown l c c_new r (act_text deed.act)) → Grows (lines c.log) (lines c_new.log)
-    grown_by_fault (inl same) = same_grows l lines kept c c_new same
-    grown_by_fault (inr (deed, is, inl same)) = same_grows l lines kept c c_new same
-    grown_by_fault (inr (deed, is, inr shown)) = line_grows l lines kept c c_new _ shown.line
-
-    stays_of : (x : History) → Grows (lines c.log) (lines c_new.log) → x ≡ h → IsOfMachine (lines c_new.log) x × LeadsTo h x
-    stays_of x grown same = (subst (IsOfMachine (lines c_new.log)) (sym same) (still_of (lines c.log) (lines c_new.log) h follows.of_machine grown), subst (LeadsTo h) (sym same) (leads_nowhere h))
-
-    seen_of : (x : History) (v : Verdict) → verdict h r ≡ v → Grows (lines c.log) (lines c_new.log) → x ≡ after_one h r → (text : List ℕ) → reply_to h r ≡ Done text → WasShown l c c_new r text → IsOfMachine (lines c_new.log) x × LeadsTo h x
-    seen_of x (Kept kept_text) is grown at text replied shown = stays_of x grown (at ∙ ap (after_verdict h) is)
-    seen_of x (Refused refusal) is grown at text replied shown = stays_of x grown (at ∙ ap (after_verdict h) is)
-    seen_of x (New deed) is grown at text replied shown =
-        let both : Done (act_text deed.act) ≡ Done text = sym (ap reply_of is) ∙ replied in
-        let same : act_text deed.act ≡ text = cc in
-        let mine = subst (WasShown l c c_new r) (sym same) shown in
-        let x_is = at ∙ after_new h r deed is in
-        (subst (IsOfMachine (lines c_new.log)) (sym x_is) (shown_of deed is mine), subst (LeadsTo h) (sym x_is) (over_shown deed is mine).leads)
-
-    left_either : (x : History) → Grows (lines c.log) (lines c_new.log) → (x ≡ h) ⊎ ((x ≡ after_one h r) × WasSeen (WasShown l) c c_new r (reply_to h r)) → IsOfMachine (lines c_new.log) x × LeadsTo h x
-    left_either x grown (inl same) = stays_of x grown same
-    left_either x grown (inr it) = seen_of x (verdict h r) refl grown it.0 it.1.0 it.1.1 it.1.2
-
-    pub left_acted : (s : State) → WasAskedIfNew (λ deed. (c_new ≡ c) ⊎ WasShown l c c_new r (act_text deed.act))
-        → Leaves newest s (λ x. (x ≡ h) ⊎ ((x ≡ after_one h r) × WasSeen (WasShown l) c c_new r (reply_to h r))) → Leaves newest s (λ x. IsOfMachine (lines c_new.log) x × LeadsTo h x)
-    left_acted s asked leaves db may = let it = leaves db may in (it.0, left_either it.0 (grown_by_fault asked) it.1, it.2)

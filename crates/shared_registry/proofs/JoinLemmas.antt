@@ -32,7 +32,8 @@ use Rattle.shared_registry.specs.Asks.{AppendsLines, AppendsRecord}
 use Rattle.shared_registry.specs.Cursors.{HasLine, HasNoLine}
 use Rattle.shared_registry.specs.Follows.{Follows}
 use Rattle.shared_registry.specs.Records.{HasPassed, IsApart, IsNextPart, IsOfReading, IsOtherPage, IsUnshared, Matches}
-use Rattle.shared_registry.proofs.FollowLemmas.{earlier_start, grows_none, grows_on, line_taken, no_line_grows}
+use Rattle.shared_registry.proofs.AppendLemmas.{did_not_take, line_taken, no_line_grows}
+use Rattle.shared_registry.proofs.FollowLemmas.{earlier_start, grows_none, grows_on}
 use Rattle.shared_registry.proofs.LineLemmas.{long_front, take_next}
 
 -- ---- the fields of a history are valid
@@ -279,7 +280,7 @@ module _ {L : Type 0} (l : LogGhosts L) (lines : L → LogLines) (h : History) w
       let at : slice_get (record_of h) c_new.next ≡ Some line = ap (slice_get (record_of h)) (same ∙ counted) ∙ line_of_record start these rest i line is lt here in
       let there = earlier_start (lines start.log) (lines c.log) (lines c_new.log) _ grown means in
       record {
-        same = subst (λ (n : ℕ). Grows (take n (record_of h)) (lines c_new.log)) (sym same) (grows_on (take c.next (record_of h)) (lines c.log) (lines c_new.log) passed.begins (no_line_grows l lines kept c c_new line faults.Taken it));
+        same = subst (λ (n : ℕ). Grows (take n (record_of h)) (lines c_new.log)) (sym same) (grows_on (take c.next (record_of h)) (lines c.log) (lines c_new.log) passed.begins (no_line_grows l lines kept c c_new line faults.Taken (did_not_take l c c_new line faults.Taken it)));
         line = it.0.0;
         there = record { instant = there.instant; before = there.before; after = there.after; held = ap (slice_get there.instant) same ∙ there.held };
         other = λ mine. it.0.1 (let both : Some line ≡ Some it.0.0 = sym at ∙ mine in let equal : line ≡ it.0.0 = cc in sym equal);

@@ -1,4 +1,6 @@
 pub mod FollowLemmas
+pub mod AppendLemmas
+pub mod ActLemmas
 pub mod AskLemmas
 pub mod JoinLemmas
 pub mod LineLemmas

@@ -1,7 +1,7 @@
 -- A registry that follows a log of lines, which other machines may append to.
 --
 -- `lines` is what the log keeps; that it keeps them is the premise `IsKept` of each clause.
-use Rattle.std.specs.Prelude.{◌≡◌, ◌⊎◌, ◌<◌, ℕ, true, false, List, [], length, slice_get, Option, Some, None, Bool}
+use Rattle.std.specs.Prelude.{◌≡◌, ◌≢◌, ◌⊎◌, ◌<◌, ℕ, true, false, List, [], length, slice_get, Option, Some, None, Bool}
 use Rattle.sqlite.specs.Store.{Ghosts}
 use Rattle.registry_rules.specs.History.{History}
 use Rattle.registry_rules.specs.Run.{after_one, reply_to}
@@ -76,10 +76,17 @@ module _ {S : Type 0} {g : Ghosts S} {L : Type 0} (l : LogGhosts L) (lines : L �
       pub follows : Follows it_new c_new now
       pub whole : WasWhole (lines c.log) (lines c_new.log) now
 
-    -- A request got the reply of the history, or, without one, another line was under the next number.
-    abbrev pub HasActed : Request → Option Reply → Type 0
-    HasActed r None = Follows it_new c_new h × Grows (lines c.log) (lines c_new.log) × (length (record_of h) < length (lines c_new.log))
-    HasActed r (Some reply) = Follows it_new c_new (after_one h r) × Grows (lines c.log) (lines c_new.log) × (reply ≡ reply_to h r)
+    -- A request got the reply of the history. If its line was appended, the history was the whole log then.
+    pub record HasActed (r : Request) (reply : Reply) : Type 0 where
+      pub follows : Follows it_new c_new (after_one h r)
+      pub grown : Grows (lines c.log) (lines c_new.log)
+      pub reply_is : reply ≡ reply_to h r
+      pub whole : c_new.next ≢ c.next → WasWhole (lines c.log) (lines c_new.log) h
+
+    -- the same, or, without a reply, the log had a line under the next number
+    abbrev pub HasTried : Request → Option Reply → Type 0
+    HasTried r None = Follows it_new c_new h × Grows (lines c.log) (lines c_new.log) × (length (record_of h) < length (lines c_new.log))
+    HasTried r (Some reply) = HasActed r reply
 
     -- A request got the reply of a history that was the whole log at some instant of the call, and was acted on after it.
     pub record IsAnswered (r : Request) (reply : Reply) : Type 0 where
@@ -88,3 +95,15 @@ module _ {S : Type 0} {g : Ghosts S} {L : Type 0} (l : LogGhosts L) (lines : L �
       pub whole : WasWhole (lines c.log) (lines c_new.log) before
       pub reply_is : reply ≡ reply_to before r
       pub follows : Follows it_new c_new (after_one before r)
+
+    -- the calls so far: the registry follows a later history
+    pub record HasGoneOn : Type 0 where
+      pub now : History
+      pub leads : LeadsTo h now
+      pub follows : Follows it_new c_new now
+      pub grown : Grows (lines c.log) (lines c_new.log)
+
+    -- a request was answered, or, without a reply, lines of the log were acted on
+    abbrev pub HasTurned : Request → Option Reply → Type 0
+    HasTurned r None = HasGoneOn
+    HasTurned r (Some reply) = IsAnswered r reply

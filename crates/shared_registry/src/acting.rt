@@ -1,13 +1,13 @@
 //! Acts on a request over the log that the registry follows.
 
-ghost use Rattle.std.specs.Prelude.{◌≡◌, true, None, Err, IfErr, IfOk};
+ghost use Rattle.std.specs.Prelude.{◌≡◌, ◌<◌, ◌^◌, true, None, Err, IfErr, IfOk};
 ghost use Rattle.sqlite.specs.State.{HasCleanDisk};
 ghost use Rattle.registry_rules.specs.History.{History};
 ghost use Rattle.registry_store.specs.Promise.{Endures, NotesForeign, Represents, is_poisoned, state_of};
 ghost use Rattle.shared_log.specs.Calls.{IsKept, LogLines};
 ghost use Rattle.shared_registry.specs.Asks.{AppendsRequest, IsAsked};
 ghost use Rattle.shared_registry.specs.Lines.{fault_in};
-ghost use Rattle.shared_registry.specs.Follows.{Follows, HasActed, IsAnswered, IsLeft};
+ghost use Rattle.shared_registry.specs.Follows.{Follows, HasTried, HasTurned, IsAnswered, IsLeft};
 
 use crate::cursor::{AppendFault, Cursor};
 use crate::following::follow;
@@ -17,15 +17,15 @@ use registry_store::{ActStop, Fault, Registry};
 use shared_log::{Log, LogFault};
 use sqlite::Alter;
 
-/// Acts on a request, whose line is appended before it is committed. Returns no reply if another line
-/// has that number: the log has grown since it was followed.
+/// Acts on a request over the history that the registry has. The line of a new one is appended before
+/// it is committed. Returns no reply if the log has a line under that number.
 fn try_to_act<S: Alter, L: Log>(
     registry: &mut Registry<S>,
     cursor: &mut Cursor<L>,
     request: &Request,
 ) -> Result<Option<Reply>, ShareStop>
     ensures ok { (lines : L → LogLines) → IsKept L.Log lines → (h : History) → Follows L.Log lines registry.old cursor.old h → HasCleanDisk (state_of registry.new)
-        → IfOk result (HasActed L.Log lines cursor.old registry.new cursor.new h request.now) }
+        → IfOk result (HasTried L.Log lines cursor.old registry.new cursor.new h request.now) }
     ensures err { (lines : L → LogLines) → IsKept L.Log lines → (h : History) → Follows L.Log lines registry.old cursor.old h → HasCleanDisk (state_of registry.new)
         → IfErr result (IsLeft L.Log lines cursor.old registry.new cursor.new h) }
     ensures asks { (h : History) → Represents registry.old h → HasCleanDisk (state_of registry.new) → IsAsked L.Log (AppendsRequest request.now) cursor.old.log cursor.new.log }
@@ -44,9 +44,47 @@ fn try_to_act<S: Alter, L: Log>(
     }
 }
 
-/// Acts on one request over the log that the registry follows: acts on the lines that it has not
-/// acted on, and then on the request, whose line is appended before it is committed, if it is new.
-/// Begins again if another machine has appended a line meanwhile.
+/// Acts on a request over the history that the registry has, and then on the lines of the log that the
+/// registry has not acted on, unless a line was appended. Returns no reply if there were such lines: it
+/// may be that of a history which was no more the whole log.
+fn act_and_look<S: Alter, L: Log>(
+    registry: &mut Registry<S>,
+    cursor: &mut Cursor<L>,
+    request: &Request,
+) -> Result<Option<Reply>, ShareStop>
+    ensures ok { (lines : L → LogLines) → IsKept L.Log lines → (h : History) → Follows L.Log lines registry.old cursor.old h → HasCleanDisk (state_of registry.new)
+        → IfOk result (HasTurned L.Log lines cursor.old registry.new cursor.new h request.now) }
+    ensures err { (lines : L → LogLines) → IsKept L.Log lines → (h : History) → Follows L.Log lines registry.old cursor.old h → HasCleanDisk (state_of registry.new)
+        → IfErr result (IsLeft L.Log lines cursor.old registry.new cursor.new h) }
+    ensures asks { (h : History) → Represents registry.old h → HasCleanDisk (state_of registry.new) → IsAsked L.Log (AppendsRequest request.now) cursor.old.log cursor.new.log }
+    ensures notes { NotesForeign registry.old registry.new (fault_in result) }
+    ensures endures { Endures (state_of registry.old) (state_of registry.new) }
+    ensures passes { IfOk result (λ reply. reply ≡ None → (cursor.old.next < cursor.new.next) × (cursor.new.next < 2 ^ 32)) }
+{
+    let before = cursor.next;
+    let tried = match try_to_act(registry, cursor, request) {
+        Ok(tried) => tried,
+        Err(stop) => return Err(stop),
+    };
+    if cursor.next != before {
+        return Ok(tried);
+    }
+    if let Err(stop) = follow(registry, cursor) {
+        return Err(stop);
+    }
+    if cursor.next > before {
+        return Ok(None);
+    }
+    match tried {
+        Some(reply) => Ok(Some(reply)),
+        // A log that had a line here shows one.
+        None => Err(ShareStop::Log(LogFault::BadAnswer)),
+    }
+}
+
+/// Acts on one request over the log that the registry follows. A new request is appended to the log
+/// before it is committed. Any other is answered once the registry has acted on all lines of the log;
+/// if there were some, it begins again, as it does if another machine has taken the number.
 ///
 /// # Errors
 ///
@@ -68,22 +106,14 @@ pub fn act<S: Alter, L: Log>(
     ensures notes { NotesForeign registry.old registry.new (fault_in result) }
     ensures endures { Endures (state_of registry.old) (state_of registry.new) }
 {
-    if let Err(stop) = follow(registry, cursor) {
-        return Err(stop);
+    if registry.is_poisoned() {
+        return Err(ShareStop::Registry(Fault::Poisoned));
     }
     loop {
-        match try_to_act(registry, cursor, request) {
+        match act_and_look(registry, cursor, request) {
             Ok(Some(reply)) => return Ok(reply),
             Ok(None) => {}
             Err(stop) => return Err(stop),
-        }
-        let before = cursor.next;
-        if let Err(stop) = follow(registry, cursor) {
-            return Err(stop);
-        }
-        // A log that had a line here shows one.
-        if cursor.next <= before {
-            return Err(ShareStop::Log(LogFault::BadAnswer));
         }
     }
 }

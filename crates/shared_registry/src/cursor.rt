@@ -1,7 +1,7 @@
 //! A log that a registry follows, and the place in it.
 
 ghost use Rattle.std.specs.Prelude.{◌≡◌};
-ghost use Rattle.shared_registry.specs.Cursors.{HasLine, HasNoLine, WasShown, WasNotTaken, log_of};
+ghost use Rattle.shared_registry.specs.Cursors.{HasLine, HasNoLine, HasNoNewLine, TookLine, WasOffered, WasShown, WasNotTaken, log_of};
 
 use crate::line::line_of;
 use registry_rules::{ReplyText, Request};
@@ -21,7 +21,7 @@ pub struct Cursor<L: Log> {
 /// Why a line was not appended, or it is not known that it was.
 #[derive(Clone, Copy, Debug, PartialEq, Eq)]
 pub enum AppendFault {
-    /// The log has another line under its number.
+    /// The log has a line under its number.
     Taken,
     /// The log has no line under the number before.
     Behind,
@@ -45,8 +45,8 @@ impl From<NoMemory> for AppendFault {
 }
 
 impl<L: Log> Cursor<L> {
-    ghost use Rattle.std.specs.Prelude.{◌≡◌, ◌<◌, ◌^◌, OnOk, IfErr};
-    ghost use Rattle.shared_registry.specs.Cursors.{HasLine, HasNoLine, log_of};
+    ghost use Rattle.std.specs.Prelude.{◌≡◌, ◌<◌, ◌^◌, OnOk, IfErr, IfOk};
+    ghost use Rattle.shared_registry.specs.Cursors.{HasLine, HasNoLine, HasNoNewLine, TookLine, WasOffered, log_of, most_lines};
 
     /// Returns the log.
     pub fn into_log(self) -> L
@@ -67,33 +67,66 @@ impl<L: Log> Cursor<L> {
         self.next
     }
 
-    /// Appends a line under the next number, and passes it.
+    /// Asks the log to have a line under the next number. Returns whether the log took it now: it may
+    /// have this very line there.
+    fn offer(&mut self, line: &[u8]) -> Result<bool, AppendFault>
+        ensures ok { IfOk result (WasOffered L.Log self.old self.new line.now) }
+        ensures err { IfErr result (HasNoLine L.Log self.old self.new line.now) }
+        ensures small { OnOk result (self.new.next < most_lines) }
+    {
+        if self.next == u32::MAX {
+            return Err(AppendFault::Full);
+        }
+        match self.log.append(self.alloc, self.next, line) {
+            Ok(AppendAnswer::Appended) => Ok(true),
+            Ok(AppendAnswer::Taken(other)) => {
+                if other.as_bytes() == line {
+                    Ok(false)
+                } else {
+                    Err(AppendFault::Taken)
+                }
+            }
+            Ok(AppendAnswer::Behind) => Err(AppendFault::Behind),
+            Err(fault) => Err(AppendFault::Log(fault)),
+        }
+    }
+
+    /// Appends a line under the next number, and passes it. A line that is there already is passed if
+    /// it has the same bytes.
     pub(crate) fn append(&mut self, line: &[u8]) -> Result<(), AppendFault>
         ensures ok { OnOk result (HasLine L.Log self.old self.new line.now) }
         ensures err { IfErr result (HasNoLine L.Log self.old self.new line.now) }
         ensures small { OnOk result (self.new.next < 2 ^ 32) }
     {
-        let Some(after) = self.next.checked_add(1) else {
-            return Err(AppendFault::Full);
-        };
-        match self.log.append(self.alloc, self.next, line) {
-            Ok(AppendAnswer::Appended) => {}
-            Ok(AppendAnswer::Taken(other)) => {
-                if other.as_bytes() != line {
-                    return Err(AppendFault::Taken);
-                }
+        match self.offer(line) {
+            Ok(_is_new) => {
+                self.next += 1;
+                Ok(())
             }
-            Ok(AppendAnswer::Behind) => return Err(AppendFault::Behind),
-            Err(fault) => return Err(AppendFault::Log(fault)),
+            Err(fault) => Err(fault),
         }
-        self.next = after;
-        Ok(())
+    }
+
+    /// Appends a line under the next number, and passes it. A line that is there already is `Taken`,
+    /// whatever it is.
+    fn append_new(&mut self, line: &[u8]) -> Result<(), AppendFault>
+        ensures ok { OnOk result (TookLine L.Log self.old self.new line.now) }
+        ensures err { IfErr result (HasNoNewLine L.Log self.old self.new line.now) }
+    {
+        match self.offer(line) {
+            Ok(true) => {
+                self.next += 1;
+                Ok(())
+            }
+            Ok(false) => Err(AppendFault::Taken),
+            Err(fault) => Err(fault),
+        }
     }
 }
 
-/// Appends the line of the request and its reply to the log, and passes it. A line that is there
-/// already is the own one if it has the same bytes: an earlier append that seemed to fail had taken
-/// effect.
+/// Appends the line of the request and its reply to the log, and passes it. The line is not appended
+/// if there is one under its number, even if it has the same bytes: then an earlier append that seemed
+/// to fail has taken effect, and other lines may follow that one.
 impl<L: Log> Witness for Cursor<L> {
     ghost use Rattle.shared_registry.specs.Cursors.{WasShown, WasNotTaken};
 
@@ -105,6 +138,6 @@ impl<L: Log> Witness for Cursor<L> {
 
     fn see(&mut self, request: &Request, reply: &ReplyText) -> Result<(), AppendFault> {
         let line = line_of(self.alloc, request, reply)?;
-        self.append(line.as_str().as_bytes())
+        self.append_new(line.as_str().as_bytes())
     }
 }

@@ -212,12 +212,13 @@ fn an_append_may_be_lost_late_or_repeated(rt: HostRuntime) -> Result<(), Fail> {
     Ok(())
 }
 
-// The read before each request has the fate first, and the append of the founding.
+// The read before the founding has the fate first, and then each fifth call: appends of some requests, and reads after the
+// others.
 #[test]
-fn a_read_may_be_lost(rt: HostRuntime) -> Result<(), Fail> {
+fn each_fifth_call_may_be_lost(rt: HostRuntime) -> Result<(), Fail> {
     let alloc = rt.alloc();
     let wanted = unchanged(alloc)?;
-    let text = acted(alloc, 0, 2, wanted.as_str())?;
+    let text = acted(alloc, 0, 4, wanted.as_str())?;
     assert_eq!(rt; text.as_str(), wanted.as_str());
     Ok(())
 }

@@ -4,7 +4,8 @@ use Rattle.registry_store.specs.Promise.{state_of}
 use Rattle.registry_wire.specs.Record.{accepted_line}
 use Rattle.shared_registry.specs.declared.cursor.AppendFault.TheVariants as faults
 use Rattle.shared_registry.specs.Cursors.{accepted_as}
-use Rattle.shared_registry.proofs.FollowLemmas.{acted, failed_now, grown_acted, left_acted, no_line_grows, other_is_there, unacted, unacted_later}
+use Rattle.shared_registry.proofs.ActLemmas.{acted, failed_now, grown_acted, left_acted, unacted, unacted_later, whole_acted}
+use Rattle.shared_registry.proofs.AppendLemmas.{no_line_grows, other_is_there}
 use Rattle.shared_registry.proofs.AskLemmas.{asked_same, asked_shown, asked_unshown}
 use Rattle.shared_registry.proofs.acting.try_to_act.Goals as goal
 
@@ -13,11 +14,13 @@ returns-in-Ok-clause-ok g c lines kept h follows clean =
     let old = c.args.registry.now in
     let cursor = c.args.cursor.now in
     let done = c.in-Ok.ensures.answered h follows.represents clean in
-    let asked = c.in-Ok.ensures.asked h follows.represents clean in (
-      acted g.L.Log lines kept old cursor c.act_before.new.self c.act_before.new.witness h c.args.request.now follows asked (λ deed is. c.in-Ok.ensures.acknowledged h deed follows.represents clean is) done.1,
-      grown_acted g.L.Log lines kept old cursor c.act_before.new.self c.act_before.new.witness h c.args.request.now follows asked,
-      done.0,
-    )
+    let asked = c.in-Ok.ensures.asked h follows.represents clean in
+    record {
+      follows = acted g.L.Log lines kept old cursor c.act_before.new.self c.act_before.new.witness h c.args.request.now follows asked (λ deed is. c.in-Ok.ensures.acknowledged h deed follows.represents clean is) done.1;
+      grown = grown_acted g.L.Log lines kept old cursor c.act_before.new.self c.act_before.new.witness h c.args.request.now follows asked;
+      reply_is = done.0;
+      whole = λ moved. whole_acted g.L.Log lines kept old cursor c.act_before.new.self c.act_before.new.witness h c.args.request.now follows asked moved;
+    }
 
 pub returns-in-Err-Fault-clause-err : goal.returns-in-Err-Fault-clause-err
 returns-in-Err-Fault-clause-err g c lines kept h follows clean = (

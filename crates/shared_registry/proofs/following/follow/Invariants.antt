@@ -4,8 +4,7 @@ use Rattle.registry_rules.specs.History.{History}
 use Rattle.registry_store.specs.Promise.{Endures, NotesForeign, state_of}
 use Rattle.shared_log.specs.Calls.{IsKept, LogLines}
 use Rattle.shared_registry.specs.Asks.{AppendsNothing, IsAsked}
-use Rattle.shared_registry.specs.Follows.{Follows}
-use Rattle.shared_registry.proofs.FollowLemmas.{HasGoneOn}
+use Rattle.shared_registry.specs.Follows.{Follows, HasGoneOn}
 use Rattle.shared_registry.proofs.following.follow.Given as goal
 
 abbrev pub invariant-loop-stop : goal.invariant-loop-stop

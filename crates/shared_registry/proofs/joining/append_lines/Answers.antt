@@ -1,7 +1,8 @@
 use Rattle.std.proofs.Common.{rules, ap, arith}
 use Rattle.shared_registry.specs.Asks.{AppendsLines}
 use Rattle.shared_registry.specs.declared.cursor.Cursor.{Cursor}
-use Rattle.shared_registry.proofs.FollowLemmas.{grows_none, grows_on, line_grows}
+use Rattle.shared_registry.proofs.AppendLemmas.{line_grows}
+use Rattle.shared_registry.proofs.FollowLemmas.{grows_none, grows_on}
 use Rattle.shared_registry.specs.declared.cursor.AppendFault.TheVariants as faults
 use Rattle.shared_registry.proofs.AskLemmas.{asked_next, asked_no_next, asked_nothing}
 use Rattle.shared_registry.proofs.JoinLemmas.{line_passed, taken_apart}
