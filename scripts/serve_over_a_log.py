@@ -4,7 +4,9 @@
 The first store puts its record into the log (`usbreg share`), and the second one, which was founded alike, follows it. Eight
 clients send orders to both at once, and ask the other machine for what was accepted: an answer that is older than that
 ends the script. Then etcd is stopped for longer than a call waits: each message gets 503, and both servers go on once etcd does,
-with a repeat of the order under its key. In the end both stores have the same rows and the log has their record.
+with a repeat of the order under its key. Then `usbreg apply` and `usbreg import` act over the log with stores of their own: what
+they acknowledge is in the log, a repeat gets its reply, and while etcd stands they fail before they act. In the end all stores
+have the same rows and the log has their record.
 
 Further it tries a store with another record, a store that is ahead of its log, an address where nobody listens and one that is
 none, each with the exit status and the line of its cause, and sharing a record a second time.
@@ -102,6 +104,27 @@ def fails(words, status, told):
     same(" ".join(words[1:]), run(words), (status, b"", told.encode()))
 
 
+def act_alone(usbreg, room, members, stores):
+    """Acts on request lines and on a list over the log, each with another store."""
+    address = members.address(0, NAME)
+    more = [enrol(CLIENTS * ORDERS + at)[0] for at in (1, 2, 2)]
+    lines = write(f"{room}/more.jsonl", "".join(f"{json.dumps(it)}\n" for it in more))
+    listed = write(f"{room}/more.ids", "1209  Shared products\n\t2001  Lantern\n")
+    asked = ["--caller", "cora", "--key", "more", "--org", "org0", "--log", address]
+    replies = "".join(f'{{"done":"enrolled {it["org"]}"}}\n' for it in more)
+    apply = [usbreg, "apply", stores[0], lines, "--log", address]
+    members.stop(0)
+    fails([*apply, "--verbose"], 1, f"fault: log\nusbreg: {address}: gives no answer in time\n")
+    members.go_on(0)
+    members.wait(0)
+    same("request lines over the log", done(apply).decode(), replies)
+    same("the same lines again, but for the first", done([*apply, "--answered", "1"]).decode(), replies[replies.index("\n") + 1 :])
+    imported = '{"done":"imported fresh 1, owned 0, reserved 0, doubled 0, untitled 0, zero 0"}\n'
+    same("a list over the log", done([usbreg, "import", stores[1], listed, *asked]).decode(), imported)
+    same("the same list with the other store", done([usbreg, "import", stores[0], listed, *asked]).decode(), imported)
+    same("a list of one who is no curator", run([usbreg, "import", stores[1], listed, *asked[2:], "--caller", "ann"])[0], 2)
+
+
 def main():
     """Serves two stores."""
     usbreg = program(*sys.argv[1:])
@@ -122,12 +145,13 @@ def main():
             without_etcd(ports, members)
             one.kill()
             two.kill()
+        act_alone(usbreg, room, members, stores)
         for store in stores:
             same("sharing again", done([usbreg, "share", store, "--log", address]), b"")
         records = [done([usbreg, "history", store]).decode() for store in stores]
         same("the record of the second store", records[1], records[0])
         same("the lines of the log", "".join(f"{line}\n" for line in members.lines(0, NAME)), records[0])
-        same("the requests of the record", records[0].count("\n"), CLIENTS * ORDERS + 4)
+        same("the requests of the record", records[0].count("\n"), CLIENTS * ORDERS + 7)
         other = f"{room}/c.db"
         done([usbreg, "found", other, write(f"{room}/other.toml", OTHER)])
         fails([usbreg, "share", other, "--log", address, "--verbose"], 1, f"fault: log\nusbreg: {address}: has another record than the store, from line 0 on\n")
@@ -138,7 +162,7 @@ def main():
         fails([usbreg, "share", other, "--log", nobody, "--verbose"], 1, f"fault: log\nusbreg: {nobody}: takes no connection\n")
         hint = "usbreg: the address of a log is http://HOST:PORT/NAME, where NAME is a slug\n"
         fails([usbreg, "share", other, "--log", f"{HOST}/{NAME}", "--verbose"], 2, f"bad word: log\n{hint}")
-    print(f"{CLIENTS * ORDERS + 3} orders at two machines over one log")
+    print(f"{CLIENTS * ORDERS + 3} orders at two machines over one log, and 3 by commands")
 
 
 if __name__ == "__main__":

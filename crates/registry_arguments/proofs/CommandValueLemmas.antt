@@ -114,7 +114,7 @@ unfolding apply_app
 apply_asks name words met free none =
     let s = built_leaf apply_app.top in
     let rows = rows_after s.rules [] words in
-    let has : HasValues s rows = level_values s refl ((refl, refl, inl (refl, inl refl)), ((refl, refl, inl (refl, inl refl)), ((refl, refl, inl (refl, inl refl)), ((refl, refl, inl (refl, inr (codes "true", refl))), ((refl, refl, inr (λ values rows e. absurd cc)), tt))))) words none in
+    let has : HasValues s rows = level_values s refl ((refl, refl, inl (refl, inl refl)), ((refl, refl, inl (refl, inl refl)), ((refl, refl, inl (refl, inl refl)), ((refl, refl, inl (refl, inl refl)), ((refl, refl, inl (refl, inr (codes "true", refl))), ((refl, refl, inr (λ values rows e. absurd cc)), tt)))))) words none in
     let given = λ (id : Text). first_given s rows id has.values in
     apply_there rows (given (codes "store") (has.given.0 refl)) (given (codes "file") (has.given.1.0 refl)) (number_given false 0 18446744073709551615 (first_of (codes "answered") rows)
     (λ text is. first_passes s rows (codes "answered") text _ has.values refl is))
@@ -124,7 +124,7 @@ unfolding import_app
 import_asks name words met free none =
     let s = built_leaf import_app.top in
     let rows = rows_after s.rules [] words in
-    let has : HasValues s rows = level_values s refl ((refl, refl, inl (refl, inl refl)), ((refl, refl, inl (refl, inl refl)), ((refl, refl, inl (refl, inl refl)), ((refl, refl, inl (refl, inl refl)), ((refl, refl, inl (refl, inl refl)), ((refl, refl, inl (refl, inl refl)), ((refl, refl, inl (refl, inr (codes "true", refl))), ((refl, refl, inl (refl, inr (codes "true", refl))), ((refl, refl, inr (λ values rows e. absurd cc)), tt))))))))) words none in
+    let has : HasValues s rows = level_values s refl ((refl, refl, inl (refl, inl refl)), ((refl, refl, inl (refl, inl refl)), ((refl, refl, inl (refl, inl refl)), ((refl, refl, inl (refl, inl refl)), ((refl, refl, inl (refl, inl refl)), ((refl, refl, inl (refl, inl refl)), ((refl, refl, inl (refl, inr (codes "true", refl))), ((refl, refl, inl (refl, inl refl)), ((refl, refl, inl (refl, inr (codes "true", refl))), ((refl, refl, inr (λ values rows e. absurd cc)), tt)))))))))) words none in
     let given = λ (id : Text). first_given s rows id has.values in
     import_there rows (given (codes "store") (has.given.0 refl)) (given (codes "list") (has.given.1.0 refl)) (given (codes "caller") (has.given.1.1.0 refl)) (given (codes "key") (has.given.1.1.1.0 refl)) (given (codes "org") (has.given.1.1.1.1.0 refl))
 

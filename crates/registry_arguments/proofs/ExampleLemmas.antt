@@ -34,10 +34,19 @@ pub applies_from : command_of (usbreg (codes "apply" ∷ codes "s" ∷ codes "--
 unfolding on_literals
 applies_from = refl
 
+pub applies_over_a_log : command_of (usbreg (codes "apply" ∷ codes "s" ∷ codes "f" ∷ codes "--log" ∷ codes "u" ∷ [])) ≡ Some (command.ApplyShared (codes "s") (codes "f") 0 (codes "u"))
+unfolding on_literals
+applies_over_a_log = refl
+
 pub imports : command_of (usbreg (codes "import" ∷ codes "s" ∷ codes "l" ∷ codes "--org=-o" ∷ codes "--key" ∷ codes "k" ∷ codes "--caller" ∷ codes "c" ∷ []))
     ≡ Some (command.Import (codes "s") (codes "l") (codes "c") (codes "k") (codes "-o") None)
 unfolding on_literals
 imports = refl
+
+pub imports_over_a_log : command_of (usbreg (codes "import" ∷ codes "s" ∷ codes "l" ∷ codes "--org=o" ∷ codes "--key=k" ∷ codes "--caller=c" ∷ codes "--log=u" ∷ []))
+    ≡ Some (command.ImportShared (codes "s") (codes "l") (codes "c") (codes "k") (codes "o") None (codes "u"))
+unfolding on_literals
+imports_over_a_log = refl
 
 pub replays : command_of (usbreg (codes "replay" ∷ codes "s" ∷ codes "-" ∷ [])) ≡ Some (command.Replay (codes "s") (codes "-"))
 unfolding on_literals

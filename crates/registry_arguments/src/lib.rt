@@ -10,5 +10,8 @@
 mod command;
 mod parts;
 mod program;
+mod reading;
+mod requests;
+mod views;
 
 pub use command::{Command, Invocation, Usage, invocation_of};

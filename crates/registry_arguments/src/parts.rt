@@ -160,6 +160,20 @@ pub(crate) fn with_port<'a>(alloc: Global, command: Command<'a>) -> Result<Comma
     with_arg(command, numeric(count, 0, MOST_CONNECTIONS))
 }
 
+/// Adds the option for a log.
+pub(crate) fn with_log<'a>(alloc: Global, command: Command<'a>) -> Result<Command<'a>, AllocError>
+    ensures app { IfOk result (λ c. app_of c ≡ with_rule (app_of command.entry) (option (codes "log"))) }
+    ensures local { IfOk result (λ c. (out-Command c).has_globals ≡ (out-Command command.entry).has_globals) }
+{
+    let log = option(
+        alloc,
+        "log",
+        "URL",
+        "The log in etcd that several machines share",
+    );
+    with_arg(command, log)
+}
+
 /// Adds `--verbose`, which each subcommand has.
 pub(crate) fn with_verbose<'a>(
     alloc: Global,

@@ -82,7 +82,7 @@ fn answer_from<S: Alter, W: Sink>(
 }
 
 /// Prints which line is not a request, and returns the exit status.
-fn reject_line<E: Sink>(alloc: Global, errors: &mut E, bad: BadLine) -> ExitStatus
+pub fn reject_line<E: Sink>(alloc: Global, errors: &mut E, bad: BadLine) -> ExitStatus
     ensures { ((result ≡ ExitStatus.Rejected) × Prints (output_of E.Sink errors.old errors.new) (bad_line_text bad))
         ⊎ ((result ≡ ExitStatus.Failed) × PrintsFailure IsOfMemory (output_of E.Sink errors.old errors.new)) }
 {

@@ -68,7 +68,7 @@ pub fn import_of_arguments(
 }
 
 /// Returns the exit status for a reply.
-pub(crate) fn exit_status_of(reply: &Reply) -> ExitStatus
+pub fn exit_status_of(reply: &Reply) -> ExitStatus
     ensures { result ≡ exit_status_of reply.now }
 {
     match reply {

@@ -140,7 +140,7 @@ mod stops;
 mod trials;
 mod unread;
 
-pub use apply::apply_lines;
+pub use apply::{apply_lines, reject_line};
 pub use arguments::{BadArgument, reject_argument};
 pub use checking::{CheckStop, Counts, check};
 pub use closing::close_store;
@@ -152,11 +152,14 @@ pub use following::{ReplayStop, follow_lines};
 pub use found::{found_registry, read_founding};
 pub use founding_check::{check_founding, is_known_key};
 pub use heading::head;
-pub use importing::{Import, import_list, import_of_arguments};
+pub use importing::{Import, exit_status_of, import_list, import_of_arguments};
 pub use input::{ReadAllFault, read_all};
 pub use lines::{BadLine, requests_in};
-pub use looking::look_up;
-pub use messages::{Failure, fail, failure_of, shown_bytes, store_failure, tell, tell_bytes};
+pub use looking::{look_up, put_fault};
+pub use messages::{
+    Failure, fail, failure_of, input_failure, put_reply, shown_bytes, store_failure, tell,
+    tell_bytes,
+};
 pub use record_lines::Found;
 pub use recording::history;
 pub use replaying::{replay, replay_on, take_founding};

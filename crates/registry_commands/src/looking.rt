@@ -40,7 +40,7 @@ fn put_name<W: Sink, E: Sink>(
 }
 
 /// Prints why the bytes are not a list, and returns the exit status.
-pub(crate) fn put_fault<E: Sink>(alloc: Global, fault: ReadFault, errors: &mut E) -> ExitStatus
+pub fn put_fault<E: Sink>(alloc: Global, fault: ReadFault, errors: &mut E) -> ExitStatus
     ensures { IsListRefused fault (output_of E.Sink errors.old errors.new) result }
 {
     match fault {

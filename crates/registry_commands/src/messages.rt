@@ -102,7 +102,7 @@ pub fn store_failure(error: Error) -> Failure
 }
 
 /// Returns the failure for a fault of an input.
-pub(crate) fn input_failure(fault: ReadAllFault) -> Failure
+pub fn input_failure(fault: ReadAllFault) -> Failure
     ensures { result ≡ input_failure fault }
 {
     match fault {
@@ -190,11 +190,7 @@ pub fn fail<E: Sink>(errors: &mut E, failure: Failure) -> ExitStatus
 ///
 /// Returns `File` if the output failed: a prefix of the line, perhaps an empty one, was written.
 /// Returns `Memory` if out of memory for the line: nothing was written.
-pub(crate) fn put_reply<W: Sink>(
-    alloc: Global,
-    output: &mut W,
-    reply: &Reply,
-) -> Result<(), Failure>
+pub fn put_reply<W: Sink>(alloc: Global, output: &mut W, reply: &Reply) -> Result<(), Failure>
     ensures ok { OnOk result (Appends (W.contents output.old) (W.contents output.new) (reply_line reply.now)) }
     ensures err { OnErr result (AppendsPrefix (W.contents output.old) (W.contents output.new) (reply_line reply.now)) }
     ensures kept { OnOk result (W.failures output.new ≡ W.failures output.old) }

@@ -6,4 +6,5 @@ pub mod WholeLemmas
 pub mod ReplayWholeLemmas
 pub mod CheckWholeLemmas
 pub mod SharedWholeLemmas
+pub mod SharedActLemmas
 pub mod PerformsLemmas

@@ -15,6 +15,7 @@ use Rattle.registry_program.specs.Performing.{IsWhole, Performs}
 use Rattle.registry_program.specs.Serving.{limit_of}
 use Rattle.registry_program.proofs.CheckWholeLemmas.{check_whole}
 use Rattle.registry_program.proofs.ReplayWholeLemmas.{replays_wholly}
+use Rattle.registry_program.proofs.SharedActLemmas.{applies_shared_whole, imports_shared_whole}
 use Rattle.registry_program.proofs.SharedWholeLemmas.{serves_shared_whole, shares_whole}
 use Rattle.registry_program.proofs.WholeLemmas.{apply_whole, exports_whole, foretells_whole, found_whole, head_whole, imports_whole, record_whole, reports_whole, serves_whole}
 
@@ -24,6 +25,8 @@ module _ {H F I R W IN K : Type 0} (m : host.Ghosts H F I) (d : disk.Ghosts F) (
   performs_whole (command.Found path founding) old new input input_new ends is = found_whole m d s old new path founding ends is.1
   performs_whole (command.Apply path file a) old new input input_new ends is = apply_whole m d s i input input_new old new path file a ends is
   performs_whole (command.Import path list caller key org vendor) old new input input_new ends is = (is.0, is.1, imports_whole m d s i input input_new old new path list is.0 ends is.2)
+  performs_whole (command.ApplyShared path file a address) old new input input_new ends is = applies_shared_whole m d s i k l input input_new old new path file a address ends is
+  performs_whole (command.ImportShared path list caller key org vendor address) old new input input_new ends is = (is.0, is.1, imports_shared_whole m d s i k l input input_new old new path list address ends is.0 is.2)
   performs_whole (command.CheckFounding founding) old new input input_new ends is = tt
   performs_whole (command.CheckImport path list caller key org vendor) old new input input_new ends is = (is.0, is.1, foretells_whole m d s i input input_new old new path list is.0 ends is.2)
   performs_whole (command.Replay path file) old new input input_new ends is = replays_wholly m d s i input input_new old new path file ends is

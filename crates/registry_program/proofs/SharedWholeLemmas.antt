@@ -16,7 +16,7 @@ use Rattle.registry_commands.specs.Ends.{Ends}
 use Rattle.registry_desk.specs.Server.{Visit}
 use Rattle.registry_desk.specs.declared.serve.Served.{Served}
 use Rattle.registry_desk.specs.declared.server.Connections as connections
-use Rattle.shared_log.specs.Calls.{LogLines}
+use Rattle.shared_log.specs.Calls.{IsKept, LogLines}
 use Rattle.shared_log.specs.declared.log.Log as log
 use Rattle.shared_registry.specs.Cursors.{log_of}
 use Rattle.shared_registry.specs.Follows.{Follows, FollowsLater, IsLeft}
@@ -32,8 +32,8 @@ use Rattle.shared_desk.proofs.ServeLemmas.{leads_by_message}
 use Rattle.registry_program.specs.declared.host.Host as host
 use Rattle.registry_program.specs.declared.logs.Logs as logs
 use Rattle.registry_program.specs.Outputs.{earlier}
-use Rattle.registry_program.specs.Sharing.{GoesOnOver, IsJoinedAt, IsServedOver, ServesOver, ServesShared, Shares, SharesInto}
-use Rattle.registry_program.specs.SharedWhole.{IsServedFrom, ServesSharedWholly, SharesWholly}
+use Rattle.registry_program.specs.Sharing.{IsFollowed, IsNotFollowed, IsServedOver, IsTakenUp, ServesJoined, ServesOver, ServesShared, Shares, SharesInto}
+use Rattle.registry_program.specs.SharedWhole.{IsServedFrom, LeadsFilesOver, ServesSharedWholly, SharesWholly}
 use Rattle.registry_program.specs.Stores.{IsRunOver, TheRegistry}
 use Rattle.registry_program.specs.Whole.{IsCarriedOn, Stays}
 use Rattle.registry_program.proofs.LeavesLemmas.{leaves_itself, same_of_either, stayed}
@@ -57,7 +57,7 @@ module _ {L : Type 0} (l : log.Ghosts L) (lines : L → LogLines) where
 
 module _ {S : Type 0} {g : Ghosts S} {L : Type 0} (l : log.Ghosts L) (lines : L → LogLines) (it_new : Registry S g) (c_new : Cursor L) where
   -- the registry still follows its log, unless a fault of it ended that
-  left_following : (c : Cursor L) (h : History) (stop : ShareStop) → fault_of stop ≡ None → IsLeft l lines c it_new c_new h stop → FollowsLater l lines it_new c_new h
+  pub left_following : (c : Cursor L) (h : History) (stop : ShareStop) → fault_of stop ≡ None → IsLeft l lines c it_new c_new h stop → FollowsLater l lines it_new c_new h
   left_following c h (stops.Registry fault) none it = absurd (cc none)
   left_following c h (stops.Log fault) none it = it.0
   left_following c h (stops.OtherRecord n) none it = (it.0, it.1, it.2)
@@ -74,73 +74,77 @@ module _ {S : Type 0} {g : Ghosts S} {L : Type 0} (l : log.Ghosts L) (lines : L 
       let after = unserved_following it.place it.middle it.last.bytes stop none it.left in
       (after.0, leads_on h it.middle after.0 (turns_lead l lines c h it.before it.place it.middle it.turns) after.1, after.2)
 
+-- ---- a command over a log
+
+module _ {H F I K : Type 0} (m : host.Ghosts H F I) (d : disk.Ghosts F) (k : logs.Ghosts H K) (l : log.Ghosts K) (old new : H) (path address : List ℕ) (ends : Ends)
+    (Does : H → H → TheRegistry m d → TheRegistry m d → Ends → Type 0) (over : IsRunOver m d old new path ends Does) (same : ends.status ≡ over.before) where
+  -- the registry was looked into, and nothing else was done
+  untouched_over : IsUntouched over.it over.after → IsCarriedOn m d old new path Stays
+  untouched_over left = carried m d old new path ends Does over same (λ clean. omega (arith, left.survives.clean, clean)) Stays
+      (λ h stands clean. (h, h, (refl, refl), leaves_itself over.after h (left.stays h stands) clean))
+
+  -- nothing was done to it
+  stays_over : over.after ≡ over.it → IsCarriedOn m d old new path Stays
+  stays_over kept = carried m d old new path ends Does over same (λ clean. subst (λ (x : TheRegistry m d). HasCleanDisk (state_of x)) kept clean) Stays
+      (λ h stands clean. stayed over.it over.after h kept stands clean)
+
+  -- the same after the log was taken up
+  pub stays_joined : (middle : TheRegistry m d) → IsUntouched over.it middle → over.after ≡ middle → IsCarriedOn m d old new path Stays
+  stays_joined middle left kept = untouched_over (subst (IsUntouched over.it) (sym kept) left)
+
+  pub not_followed : IsNotFollowed k l address over.opened over.done over.it over.after (earlier ends over.errors over.before) → IsCarriedOn m d old new path Stays
+  not_followed (inl none) = stays_over none.2
+  not_followed (inr it) = untouched_over it.3.joins.untouched
+
+  -- what was done over the log that the registry followed leads to a later history
+  pub leads_over : (found : H) (middle : TheRegistry m d) (cursor left : Cursor K) → IsTakenUp k l address over.opened found over.it middle (Ok cursor) → (HasCleanDisk (state_of over.after) → HasCleanDisk (state_of middle))
+      → ((lines : K → LogLines) → IsKept l lines → (h : History) → Follows l lines middle cursor h → HasCleanDisk (state_of over.after) → FollowsLater l lines over.after left h)
+      → LeadsFilesOver m d l old path over.closes.files left
+  leads_over found middle cursor left taken endures later lines kept h valid =
+      let before : HasCleanDisk (state_of over.after) → HasCleanDisk (state_of over.it) = λ clean. omega (arith, taken.joins.untouched.survives.clean, endures clean) in
+      files_lead_to m d old new path ends Does over same before h h (λ x y. (y ≡ x) × LeadsTo h x × IsOfMachine (lines (log_of left)) x) (λ x is stands clean.
+      let here : Represents over.it h = subst (λ (y : History). Represents over.it y) (same_of_either h x is) stands in
+      let now = later lines kept h (taken.joins.follows lines kept h here valid (endures clean)) clean in
+      (now.0, now.0, (refl, now.1, now.2.of_machine), leaves_itself over.after now.0 now.2.represents clean))
+
 -- ---- the commands
 
 module _ {H F I K : Type 0} (m : host.Ghosts H F I) (d : disk.Ghosts F) (k : logs.Ghosts H K) (l : log.Ghosts K) where
   pub shares_whole : (old new : H) (path address : List ℕ) (ends : Ends) → Shares m d k l old new path address ends → SharesWholly m d k l old new path address ends
   shares_whole old new path address ends = runs_whole m d old new path ends (SharesInto k l address) (IsCarriedOn m d old new path Stays) (λ over same. elim over.does [
-    | inl shared ↦
-        let left = shared.shares.untouched in
-        carried m d old new path ends (SharesInto k l address) over same (λ clean. omega (arith, left.survives.clean, clean)) Stays
-        (λ h stands clean. (h, h, (refl, refl), leaves_itself over.after h (left.stays h stands) clean))
-    | inr none ↦
-        carried m d old new path ends (SharesInto k l address) over same (λ clean. subst (λ (x : TheRegistry m d). HasCleanDisk (state_of x)) none.2 clean) Stays
-        (λ h stands clean. stayed over.it over.after h none.2 stands clean)
+    | inl shared ↦ untouched_over m d k l old new path address ends (SharesInto k l address) over same shared.shares.untouched
+    | inr none ↦ stays_over m d k l old new path address ends (SharesInto k l address) over same none.2
   ])
 
-module _ {H F I R W K : Type 0} (m : host.Ghosts H F I) (d : disk.Ghosts F) (c : connections.Ghosts H R W) (r : source.Ghosts R) (w : sink.Ghosts W) (k : logs.Ghosts H K) (l : log.Ghosts K) where
-  module _ (old new : H) (path : List ℕ) (port limit : ℕ) (address : List ℕ) (ends : Ends) where
-    abbrev Does : H → H → TheRegistry m d → TheRegistry m d → Ends → Type 0
-    Does = ServesOver m c r w k l port limit address
+module _ {H F I R W K : Type 0} (m : host.Ghosts H F I) (d : disk.Ghosts F) (c : connections.Ghosts H R W) (r : source.Ghosts R) (w : sink.Ghosts W) (k : logs.Ghosts H K) (l : log.Ghosts K)
+    (old new : H) (path : List ℕ) (port limit : ℕ) (address : List ℕ) (ends : Ends) where
+  abbrev Does : H → H → TheRegistry m d → TheRegistry m d → Ends → Type 0
+  Does = ServesOver m c r w k l port limit address
 
-    abbrev Whole : Type 0
-    Whole = IsServedFrom m d c r w k l old new path port limit address ends ⊎ IsCarriedOn m d old new path Stays
+  abbrev Whole : Type 0
+  Whole = IsServedFrom m d c r w k l old new path port limit address ends ⊎ IsCarriedOn m d old new path Stays
 
-    module _ (over : IsRunOver m d old new path ends Does) (same : ends.status ≡ over.before) where
-      -- nothing was done to the store
-      stays_over : over.after ≡ over.it → IsCarriedOn m d old new path Stays
-      stays_over kept = carried m d old new path ends Does over same (λ clean. subst (λ (x : TheRegistry m d). HasCleanDisk (state_of x)) kept clean) Stays
-          (λ h stands clean. stayed over.it over.after h kept stands clean)
+  module _ (over : IsRunOver m d old new path ends Does) (same : ends.status ≡ over.before)
+      (followed : IsFollowed k l address (ServesJoined m c r w k l port limit) over.opened over.done over.it over.after (earlier ends over.errors over.before)) where
+    served_whole : IsServedOver m c r w k l port limit followed.found over.done followed.middle over.after followed.cursor (earlier ends over.errors over.before) → IsServedFrom m d c r w k l old new path port limit address ends
+    served_whole served =
+        let all = served.served in
+        record {
+          over = over;
+          followed = followed;
+          served = served;
+          holds = λ sound. leads_over m d k l old new path address ends Does over same followed.found followed.middle followed.cursor served.left followed.taken (λ clean. omega (arith, all.endures.clean, clean))
+              (λ lines kept h follows clean. ends_following l lines over.after served.left followed.cursor h all.served.0 (stop_in served.end) sound (all.served.7 lines kept h follows clean));
+        }
 
-      -- the log was looked into, and nothing else was done
-      stays_joined : (middle : TheRegistry m d) → IsUntouched over.it middle → over.after ≡ middle → IsCarriedOn m d old new path Stays
-      stays_joined middle left kept =
-          let before : HasCleanDisk (state_of over.after) → HasCleanDisk (state_of over.it) = λ clean.
-          let then = subst (λ (x : TheRegistry m d). HasCleanDisk (state_of x)) kept clean in omega (arith, left.survives.clean, then) in
-          carried m d old new path ends Does over same before Stays
-          (λ h stands clean. (h, h, (refl, refl), leaves_itself over.after h (subst (λ (x : TheRegistry m d). Represents x h) (sym kept) (left.stays h stands)) clean))
+    followed_whole : Whole
+    followed_whole = elim followed.does [
+      | inl served ↦ inl (served_whole served)
+      | inr not ↦ inr (stays_joined m d k l old new path address ends Does over same followed.middle followed.taken.joins.untouched not.1)
+    ]
 
-      module _ (joined : IsJoinedAt m c r w k l port limit address over.opened over.done over.it over.after (earlier ends over.errors over.before)) where
-        served_whole : (cursor : Cursor K) → joined.end ≡ Ok cursor → IsServedOver m c r w k l port limit joined.found over.done joined.middle over.after cursor (earlier ends over.errors over.before)
-            → IsServedFrom m d c r w k l old new path port limit address ends
-        served_whole cursor took served =
-            let all = served.served in
-            let left = joined.joins.untouched in
-            let middle : HasCleanDisk (state_of over.after) → HasCleanDisk (state_of joined.middle) = λ clean. omega (arith, all.endures.clean, clean) in
-            let before : HasCleanDisk (state_of over.after) → HasCleanDisk (state_of over.it) = λ clean. omega (arith, left.survives.clean, middle clean) in record {
-              over = over;
-              joined = joined;
-              cursor = cursor;
-              took = took;
-              served = served;
-              holds = λ lines kept sound h valid.
-                  files_lead_to m d old new path ends Does over same before h h (λ x y. (y ≡ x) × LeadsTo h x × IsOfMachine (lines (log_of served.left)) x) (λ x is stands clean.
-                  let here : Represents over.it h = subst (λ (y : History). Represents over.it y) (same_of_either h x is) stands in
-                  let follows : Follows l lines joined.middle cursor h = rw took at (joined.joins.follows lines kept h here valid (middle clean)) in
-                  let now = ends_following l lines over.after served.left cursor h all.served.0 (stop_in served.end) sound (all.served.7 lines kept h follows clean) in
-                  (now.0, now.0, (refl, now.1, now.2.of_machine), leaves_itself over.after now.0 now.2.represents clean));
-            }
-
-        joined_whole : (end : Result (Cursor K) (ShareStop × K)) → joined.end ≡ end
-            → GoesOnOver m c r w k l port limit joined.found over.done joined.middle over.after end (earlier ends over.errors over.before) → Whole
-        joined_whole (Ok cursor) took goes_on = elim goes_on [
-          | inl served ↦ inl (served_whole cursor took served)
-          | inr not ↦ inr (stays_joined joined.middle joined.joins.untouched not.1)
-        ]
-        joined_whole (Err left) took goes_on = inr (stays_joined joined.middle joined.joins.untouched goes_on.0)
-
-    pub serves_shared_whole : ServesShared m d c r w k l old new path port limit address ends → ServesSharedWholly m d c r w k l old new path port limit address ends
-    serves_shared_whole = runs_whole m d old new path ends Does Whole (λ over same. elim over.does [
-      | inl joined ↦ joined_whole over same joined joined.end refl joined.goes_on
-      | inr none ↦ inr (stays_over over same none.2)
-    ])
+  pub serves_shared_whole : ServesShared m d c r w k l old new path port limit address ends → ServesSharedWholly m d c r w k l old new path port limit address ends
+  serves_shared_whole = runs_whole m d old new path ends Does Whole (λ over same. elim over.does [
+    | inl not ↦ inr (not_followed m d k l old new path address ends Does over same not)
+    | inr followed ↦ followed_whole over same followed
+  ])

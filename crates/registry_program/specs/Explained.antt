@@ -27,6 +27,8 @@ HasRemarks command.Trial = ⊤
 HasRemarks (command.Found path founding) = ⊤
 HasRemarks (command.Apply path file answered) = ⊤
 HasRemarks (command.Import path list caller key org vendor) = ⊤
+HasRemarks (command.ApplyShared path file answered address) = ⊤
+HasRemarks (command.ImportShared path list caller key org vendor address) = ⊤
 HasRemarks _ = ⊥
 
 -- the command changes nothing, and is run for what it says

@@ -8,6 +8,7 @@ pub mod DryRuns
 pub mod Checking
 pub mod Serving
 pub mod Sharing
+pub mod SharedActs
 pub mod Replaying
 pub mod Whole
 pub mod SharedWhole

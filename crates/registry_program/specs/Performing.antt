@@ -17,8 +17,9 @@ use Rattle.registry_program.specs.DryRuns.{ChecksFounding, TriesImport}
 use Rattle.registry_program.specs.Checking.{ChecksStore}
 use Rattle.registry_program.specs.Replaying.{ReplaysRecord}
 use Rattle.registry_program.specs.Serving.{Serves, limit_of}
+use Rattle.registry_program.specs.SharedActs.{AppliesShared, ImportsShared}
 use Rattle.registry_program.specs.Sharing.{ServesShared, Shares}
-use Rattle.registry_program.specs.SharedWhole.{ServesSharedWholly, SharesWholly}
+use Rattle.registry_program.specs.SharedWhole.{AppliesSharedWholly, ImportsSharedWholly, ServesSharedWholly, SharesWholly}
 use Rattle.registry_program.specs.Whole.{AppliesWholly, ChecksWholly, ExportsWholly, ForetellsWholly, FoundsWholly, ImportsWholly, PrintsHeadWholly, PrintsRecordWholly, ReplaysWholly, ReportsWholly, ServesWholly}
 
 -- What is asked of the machine, and what is written where, by the command. A trial reads the standard input. So may `apply`,
@@ -30,6 +31,9 @@ Performs m d s c r w i k l (command.Found path founding) old new input input_new
 Performs m d s c r w i k l (command.Apply path file answered) old new input input_new ends = Applies m d s i input input_new old new path file answered ends
 Performs m d s c r w i k l (command.Import path list caller key org vendor) old new input input_new ends =
     Imports m d s i input input_new old new path list caller key org vendor ends
+Performs m d s c r w i k l (command.ApplyShared path file answered address) old new input input_new ends = AppliesShared m d s i k l input input_new old new path file answered address ends
+Performs m d s c r w i k l (command.ImportShared path list caller key org vendor address) old new input input_new ends =
+    ImportsShared m d s i k l input input_new old new path list caller key org vendor address ends
 Performs m d s c r w i k l (command.CheckFounding founding) old new input input_new ends = (input_new ≡ input) × ChecksFounding m s old new founding ends
 Performs m d s c r w i k l (command.CheckImport path list caller key org vendor) old new input input_new ends =
     TriesImport m d s i input input_new old new path list caller key org vendor ends
@@ -53,6 +57,9 @@ IsWhole m d s c r w i k l command.Trial old new input input_new ends = ⊤
 IsWhole m d s c r w i k l (command.Found path founding) old new input input_new ends = FoundsWholly m d s old new path founding ends
 IsWhole m d s c r w i k l (command.Apply path file answered) old new input input_new ends = AppliesWholly m d s i input input_new old new path file answered ends
 IsWhole m d s c r w i k l (command.Import path list caller key org vendor) old new input input_new ends = ImportsWholly m d s i input input_new old new path list caller key org vendor ends
+IsWhole m d s c r w i k l (command.ApplyShared path file answered address) old new input input_new ends = AppliesSharedWholly m d s i k l input input_new old new path file answered address ends
+IsWhole m d s c r w i k l (command.ImportShared path list caller key org vendor address) old new input input_new ends =
+    ImportsSharedWholly m d s i k l input input_new old new path list caller key org vendor address ends
 IsWhole m d s c r w i k l (command.CheckFounding founding) old new input input_new ends = ⊤
 IsWhole m d s c r w i k l (command.CheckImport path list caller key org vendor) old new input input_new ends =
     ForetellsWholly m d s i input input_new old new path list caller key org vendor ends

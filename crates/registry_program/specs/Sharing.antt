@@ -117,6 +117,30 @@ module _ {H K : Type 0} (k : logs.Ghosts H K) where
     abbrev pub SharesInto : {S : Type 0} {g : store.Ghosts S} → List ℕ → H → H → Registry S g → Registry S g → Ends → Type 0
     SharesInto address old new it after ends = IsSharedAt address old new it after ends ⊎ ((why : NoLog) × k.rejects old new address why × (after ≡ it) × TellsNoLog why ends)
 
+    -- the log at this address was taken up, as `join` says, or not
+    pub record IsTakenUp {S : Type 0} {g : store.Ghosts S} (address : List ℕ) (old found : H) (it after : Registry S g) (end : Result (Cursor K) (ShareStop × K)) : Type 0 where
+      pub log : K
+      pub finds : k.finds old found address log
+      pub joins : TakesUp l it after log end
+      pub asks : IsAskedFor l AppendsNothing log end
+
+    -- There is no log for the address; or it was not taken up, and was left.
+    abbrev pub IsNotFollowed : {S : Type 0} {g : store.Ghosts S} → List ℕ → H → H → Registry S g → Registry S g → Ends → Type 0
+    IsNotFollowed address old new it after ends =
+        ((why : NoLog) × k.rejects old new address why × (after ≡ it) × TellsNoLog why ends)
+        ⊎ ((found : H) × (stop : ShareStop) × (log : K) × IsTakenUp address old found it after (Err (stop, log)) × k.leaves found new log stop × TellsStop stop ends)
+
+    -- the log was taken up, and then this was done with the registry that follows it
+    pub record IsFollowed {S : Type 0} {g : store.Ghosts S} (address : List ℕ) (Does : H → H → Registry S g → Registry S g → Cursor K → Ends → Type 0) (old new : H) (it after : Registry S g) (ends : Ends) : Type 0 where
+      pub found : H
+      pub middle : Registry S g
+      pub cursor : Cursor K
+      pub taken : IsTakenUp address old found it middle (Ok cursor)
+      pub does : Does found new middle after cursor ends
+
+    abbrev pub FollowsAt : {S : Type 0} {g : store.Ghosts S} → List ℕ → (H → H → Registry S g → Registry S g → Cursor K → Ends → Type 0) → H → H → Registry S g → Registry S g → Ends → Type 0
+    FollowsAt address Does old new it after ends = IsNotFollowed address old new it after ends ⊎ IsFollowed address Does old new it after ends
+
 module _ {H F I R W K : Type 0} (m : host.Ghosts H F I) (c : connections.Ghosts H R W) (r : source.Ghosts R) (w : sink.Ghosts W) (k : logs.Ghosts H K) (l : log.Ghosts K) where
   -- connections of the machine were served over a log, at most so many, as `serve_shared` says
   pub record AreServedOver {S : Type 0} {g : store.Ghosts S} (old new : H) (it after : Registry S g) (cursor cursor_new : Cursor K) (limit : ℕ) (end : Result (Unit {0}) SharedStop) : Type 0 where
@@ -144,25 +168,9 @@ module _ {H F I R W K : Type 0} (m : host.Ghosts H F I) (c : connections.Ghosts 
   abbrev pub ServesJoined : {S : Type 0} {g : store.Ghosts S} → ℕ → ℕ → H → H → Registry S g → Registry S g → Cursor K → Ends → Type 0
   ServesJoined port limit old new it after cursor ends = IsServedOver port limit old new it after cursor ends ⊎ (m.is_refused old new port × (after ≡ it) × IsSocketFailure ends)
 
-  -- what comes after the log was taken up, or not
-  abbrev pub GoesOnOver : {S : Type 0} {g : store.Ghosts S} → ℕ → ℕ → H → H → Registry S g → Registry S g → Result (Cursor K) (ShareStop × K) → Ends → Type 0
-  GoesOnOver port limit old new it after (Ok cursor) ends = ServesJoined port limit old new it after cursor ends
-  GoesOnOver port limit old new it after (Err left) ends = (after ≡ it) × k.leaves old new left.1 left.0 × TellsStop left.0 ends
-
-  -- the log at this address was taken up, as `join` says, and then the port was served
-  pub record IsJoinedAt {S : Type 0} {g : store.Ghosts S} (port limit : ℕ) (address : List ℕ) (old new : H) (it after : Registry S g) (ends : Ends) : Type 0 where
-    pub found : H
-    pub log : K
-    pub finds : k.finds old found address log
-    pub end : Result (Cursor K) (ShareStop × K)
-    pub middle : Registry S g
-    pub joins : TakesUp l it middle log end
-    pub asks : IsAskedFor l AppendsNothing log end
-    pub goes_on : GoesOnOver port limit found new middle after end ends
-
-  -- that, or there is no log for the address
+  -- serve STORE over the log at an address
   abbrev pub ServesOver : {S : Type 0} {g : store.Ghosts S} → ℕ → ℕ → List ℕ → H → H → Registry S g → Registry S g → Ends → Type 0
-  ServesOver port limit address old new it after ends = IsJoinedAt port limit address old new it after ends ⊎ ((why : NoLog) × k.rejects old new address why × (after ≡ it) × TellsNoLog why ends)
+  ServesOver port limit address old new it after ends = FollowsAt k l address (ServesJoined port limit) old new it after ends
 
 -- share STORE
 abbrev pub Shares : {H F I K : Type 0} → host.Ghosts H F I → disk.Ghosts F → logs.Ghosts H K → log.Ghosts K → H → H → List ℕ → List ℕ → Ends → Type 0

@@ -52,7 +52,9 @@ fn store_of<'a>(command: Command<&'a str>) -> Option<&'a str> {
         Command::Trial => None,
         Command::Found { store, .. } => Some(store),
         Command::Apply { store, .. } => Some(store),
+        Command::ApplyShared { store, .. } => Some(store),
         Command::Import { store, .. } => Some(store),
+        Command::ImportShared { store, .. } => Some(store),
         Command::CheckFounding { .. } => None,
         Command::CheckImport { store, .. } => Some(store),
         Command::Replay { store, .. } => Some(store),
@@ -77,8 +79,10 @@ fn named<'a>(name: &'a str) -> &'a str {
 fn input_of<'a>(command: Command<&'a str>) -> &'a str {
     match command {
         Command::Found { founding, .. } | Command::CheckFounding { founding } => founding,
-        Command::Apply { file, .. } => named(file),
-        Command::Import { list, .. } | Command::CheckImport { list, .. } => named(list),
+        Command::Apply { file, .. } | Command::ApplyShared { file, .. } => named(file),
+        Command::Import { list, .. }
+        | Command::ImportShared { list, .. }
+        | Command::CheckImport { list, .. } => named(list),
         Command::Lookup { list, .. } => list,
         Command::Replay { record, .. } => named(record),
         _ => "standard input",
@@ -88,7 +92,10 @@ fn input_of<'a>(command: Command<&'a str>) -> &'a str {
 /// Returns the address of the log that a command uses.
 fn log_of<'a>(command: Command<&'a str>) -> &'a str {
     match command {
-        Command::ServeShared { log, .. } | Command::Share { log, .. } => log,
+        Command::ApplyShared { log, .. }
+        | Command::ImportShared { log, .. }
+        | Command::ServeShared { log, .. }
+        | Command::Share { log, .. } => log,
         _ => "the log",
     }
 }
@@ -201,10 +208,12 @@ fn words_for_input<H: Host>(
         Command::Found { .. } | Command::CheckFounding { .. } => {
             remark_on_founding(alloc, &bytes, line)?
         }
-        Command::Import { .. } | Command::CheckImport { .. } | Command::Lookup { .. } => {
-            remark_on_list(alloc, &bytes, line)?
-        }
-        Command::Apply { answered, .. } if is_message(line, "answered exceeds requests\n") => {
+        Command::Import { .. }
+        | Command::ImportShared { .. }
+        | Command::CheckImport { .. }
+        | Command::Lookup { .. } => remark_on_list(alloc, &bytes, line)?,
+        Command::Apply { answered, .. } | Command::ApplyShared { answered, .. }
+            if is_message(line, "answered exceeds requests\n") => {
             let count = count_lines(&bytes);
             Some(format!(in alloc; "it has {count} requests, and --answered is {answered}")?)
         }
@@ -360,7 +369,10 @@ pub(crate) fn remark<H: Host, E: Sink>(
         Command::Found { .. } => say_if(alloc, errors, words_for_ignored(alloc, host, command)),
         Command::Trial => say_if(alloc, errors, words_for_ignored(alloc, host, command)),
         Command::Apply { .. } => say_if(alloc, errors, words_for_ignored(alloc, host, command)),
-        Command::Import { .. } => {
+        Command::ApplyShared { .. } => {
+            say_if(alloc, errors, words_for_ignored(alloc, host, command))
+        }
+        Command::Import { .. } | Command::ImportShared { .. } => {
             say_if(alloc, errors, words_for_list(alloc, host, command, vendor))
         }
         _ => {}

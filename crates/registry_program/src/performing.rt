@@ -19,6 +19,7 @@ use crate::last_line::LastLine;
 use crate::logs::Logs;
 use crate::replaying::run_replay;
 use crate::serving::run_serve;
+use crate::shared_acts::{run_apply_shared, run_import_shared};
 use crate::sharing::{run_serve_shared, run_share};
 use crate::showing::{run_export, run_head, run_history, run_lookup, run_report};
 use byte_streams::{Sink, Source};
@@ -61,6 +62,28 @@ fn act_by<H: Host + Connections + Logs, R: Source, W: Sink, E: Sink>(
             let asked = import_of_arguments(alloc, caller, key, org, vendor);
             run_import(
                 alloc, host, store, list, asked, sought, input, output, errors,
+            )
+        }
+        Command::ApplyShared {
+            store,
+            file,
+            answered,
+            log,
+        } => run_apply_shared(
+            alloc, host, store, file, answered, log, input, output, errors,
+        ),
+        Command::ImportShared {
+            store,
+            list,
+            caller,
+            key,
+            org,
+            vendor,
+            log,
+        } => {
+            let asked = import_of_arguments(alloc, caller, key, org, vendor);
+            run_import_shared(
+                alloc, host, store, list, asked, log, sought, input, output, errors,
             )
         }
         Command::CheckFounding { founding } => run_found_check(alloc, host, founding, errors),

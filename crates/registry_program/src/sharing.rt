@@ -1,66 +1,23 @@
 //! The commands over a log that several machines share: one puts the record of a registry into it, and
 //! one serves a registry that follows it.
 
-ghost use Rattle.std.specs.Prelude.{◌≡◌};
-ghost use Rattle.registry_commands.specs.Ends.{output_of};
-ghost use Rattle.registry_commands.specs.Failures.{Prints};
 ghost use Rattle.registry_program.specs.Outputs.{silent_ends};
 ghost use Rattle.registry_program.specs.Serving.{limit_of};
-ghost use Rattle.registry_program.specs.Sharing.{ServesJoined, ServesOver, ServesShared, Shares, SharesInto, TellsNoLog, TellsServed, TellsStop, log_line};
+ghost use Rattle.registry_program.specs.Sharing.{ServesJoined, ServesOver, ServesShared, Shares, SharesInto, TellsServed};
 
+use crate::following::{fail_by, join_at, refuse_address};
 use crate::host::Host;
-use crate::logs::{Logs, NoLog};
+use crate::logs::Logs;
 use crate::serving::{fail_socket, limit_of};
 use crate::stores::{close_registry, open_registry};
 use byte_streams::{Broken, Sink};
-use registry_commands::{ExitStatus, Failure, fail, failure_of, tell};
+use registry_commands::{ExitStatus, fail};
 use registry_desk::Connections;
 use registry_store::Registry;
 use shared_desk::{SharedStop, serve_shared};
-use shared_log::LogFault;
-use shared_registry::{Cursor, ShareStop, join, share};
+use shared_registry::{Cursor, share};
 use sqlite::Alter;
 use std::alloc::Global;
-
-/// Prints that the registry does not go on with its log, and returns the exit status.
-fn fail_log<E: Sink>(errors: &mut E) -> ExitStatus
-    ensures status { result ≡ ExitStatus.Failed }
-    ensures told { Prints (output_of E.Sink errors.old errors.new) log_line }
-{
-    tell(errors, "fault: log\n");
-    ExitStatus::Failed
-}
-
-/// Prints why there is no log, and returns the exit status.
-fn refuse_address<E: Sink>(errors: &mut E, why: NoLog) -> ExitStatus
-    ensures { (out : _) → TellsNoLog why (silent_ends E.Sink out errors.old errors.new result) }
-{
-    match why {
-        NoLog::BadAddress => {
-            tell(errors, "bad word: log\n");
-            ExitStatus::Rejected
-        }
-        NoLog::NoMemory => fail(errors, Failure::Memory),
-    }
-}
-
-/// Prints why the registry does not go on with its log, and returns the exit status.
-fn fail_by<E: Sink>(errors: &mut E, stop: ShareStop) -> ExitStatus
-    ensures { (out : _) → TellsStop stop (silent_ends E.Sink out errors.old errors.new result) }
-{
-    match stop {
-        ShareStop::Registry(fault) => fail(errors, failure_of(fault)),
-        ShareStop::NoMemory => fail(errors, Failure::Memory),
-        ShareStop::Log(LogFault::NoMemory) => fail(errors, Failure::Memory),
-        ShareStop::Log(LogFault::NoQuorum) => fail_log(errors),
-        ShareStop::Log(LogFault::Unreachable) => fail_log(errors),
-        ShareStop::Log(LogFault::Refused) => fail_log(errors),
-        ShareStop::Log(LogFault::BadAnswer) => fail_log(errors),
-        ShareStop::OtherRecord(_) => fail_log(errors),
-        ShareStop::Ahead => fail_log(errors),
-        ShareStop::Full => fail_log(errors),
-    }
-}
 
 /// Puts the record of a registry into the log at an address, and returns the exit status.
 fn share_into<H: Logs, S: Alter, E: Sink>(
@@ -165,16 +122,9 @@ fn serve_over<H: Host + Connections + Logs, S: Alter, E: Sink>(
     ensures { (out : _) → ServesOver H.Host H.Connections H.Reader.Source H.Writer.Sink H.Logs H.Log.Log port (limit_of count) address.now host.old host.new registry.old registry.new
         (silent_ends E.Sink out errors.old errors.new result) }
 {
-    let log = match host.log_at(address) {
-        Ok(log) => log,
-        Err(why) => return refuse_address(errors, why),
-    };
-    match join(alloc, registry, log) {
+    match join_at(alloc, host, address, registry, errors) {
         Ok(cursor) => serve_joined(alloc, host, port, count, registry, cursor, errors),
-        Err((stop, log)) => {
-            host.leave_log(log, stop);
-            fail_by(errors, stop)
-        }
+        Err(status) => status,
     }
 }
 

@@ -49,3 +49,9 @@ returns-in-ServeShared g c = rw c.in-ServeShared.is (refl, c.run_serve_shared.en
 
 pub returns-in-Share : goal.returns-in-Share
 returns-in-Share g c = rw c.in-Share.is (refl, c.run_share.ensures (sunk g.W.Sink c.args.output.now))
+
+pub returns-in-ApplyShared : goal.returns-in-ApplyShared
+returns-in-ApplyShared g c = rw c.in-ApplyShared.is c.run_apply_shared.ensures
+
+pub returns-in-ImportShared : goal.returns-in-ImportShared
+returns-in-ImportShared g c = rw c.in-ImportShared.is (c.import_of_arguments-asked-in-ImportShared.result, c.import_of_arguments-asked-in-ImportShared.ensures, c.run_import_shared.ensures)

@@ -3,7 +3,7 @@ use Rattle.std.proofs.lemmas.Result.{IfOk-weaker}
 use Rattle.clap.specs.Words.{App, app_of, with_subcommand}
 use Rattle.registry_arguments.specs.Commands.{serve_app, export_app, report_app, history_app, head_app, check_app, lookup_app}
 use Rattle.registry_arguments.proofs.CommandLemmas.{with_same}
-use Rattle.registry_arguments.proofs.program.with_views.Goals as goal
+use Rattle.registry_arguments.proofs.views.with_views.Goals as goal
 
 pub returns : goal.returns
 returns c =

@@ -3,7 +3,7 @@ use Rattle.std.proofs.lemmas.Result.{IfOk-weaker}
 use Rattle.clap.specs.Words.{App, app_of, with_subcommand}
 use Rattle.registry_arguments.specs.Commands.{trial_app, found_app, apply_app, import_app, replay_app, share_app}
 use Rattle.registry_arguments.proofs.CommandLemmas.{with_same}
-use Rattle.registry_arguments.proofs.program.with_requests.Goals as goal
+use Rattle.registry_arguments.proofs.requests.with_requests.Goals as goal
 
 pub returns : goal.returns
 returns c =

@@ -1,7 +1,7 @@
 use Rattle.std.proofs.Common.{◌≤◌, arith, sym}
 use Rattle.registry_arguments.proofs.NumberLemmas.{number_within, number_outside, number_none}
-use Rattle.registry_arguments.proofs.command.number_in.Goals as goal
-use Rattle.registry_arguments.proofs.command.number_in.Goals.{else-low-number-via-then-low-number+else-number-high, else-low-number-via-else-low-number}
+use Rattle.registry_arguments.proofs.reading.number_in.Goals as goal
+use Rattle.registry_arguments.proofs.reading.number_in.Goals.{else-low-number-via-then-low-number+else-number-high, else-low-number-via-else-low-number}
 
 pub returns-then-number-high-clause-value : goal.returns-then-number-high-clause-value
 returns-then-number-high-clause-value c =

@@ -1,0 +1,8 @@
+use Rattle.std.proofs.Common.{◌≡◌, codes, true, false, inl, inr, refl, rules}
+use Rattle.std.specs.Str.{bytes_eq}
+use Rattle.registry_program.proofs.shared_acts.answer_lines.Goals as goal
+
+pub returns-in-Ok : goal.returns-in-Ok
+returns-in-Ok g c =
+    let other : bytes_eq c.args.file.now (codes "-") ≡ false = search rules in
+    inr (other, refl, inl (c.in-Ok.source, c.apply_shared-in-Ok.new.source, c.in-Ok.ensures.opened, c.apply_shared-in-Ok.ensures))
