@@ -74,12 +74,7 @@ fn goes_on_without_an_answer(rt: HostRuntime) -> Result<(), Fail> {
     let founding = founding(alloc)?;
     let conn = Connection::open_in_memory(alloc).expect(&rt, "memory");
     // (the last one is that of the first call, by which the registry takes up the log)
-    let fates = vec![in alloc;
-        Fate::Forgets,
-        Fate::Answers,
-        Fate::Loses,
-        Fate::Answers,
-    ]?;
+    let fates = vec![in alloc; Fate::Forgets, Fate::Answers, Fate::Loses, Fate::Answers]?;
     let mut text = String::new(alloc);
     let messages = [ENROL, LIST, ENROL, ORG, ENROL];
     found_and_serve(alloc, conn, &founding, None, fates, &messages, &mut text);
