@@ -44,6 +44,16 @@
 //! its name and at that of its log. A new store takes the place of nothing, or of a file without
 //! bytes, and only where the log holds no commit (`IsReasonFor`, `IsBlankFile`, `HasNoCommit`).
 //!
+//! # Over a log
+//!
+//! With a log (`Logs`) `share`, `serve`, `apply` and `import` ask for the one at their address once the
+//! store is open. `share` puts the record into it (`SharesInto`). The others take it up before they
+//! listen or open an input, and end if the registry does not go on with it (`FollowsAt`); what they
+//! then do is said by `ServesJoined`, `AppliesJoined` and `ImportsJoined`. A log with which the registry
+//! does not go on is left, with the reason, which only a cause names beyond `fault: log` (`TellsStop`).
+//! Over a log that keeps its lines the files then hold a history to which the one before leads, and the
+//! log begins with its record (`LeadsFilesOver`), unless a fault of the registry ended the command.
+//!
 //! # The line with a cause
 //!
 //! Beyond what `performs` says the error output has at most one more line, only if causes are asked

@@ -13,9 +13,9 @@
 //! # What stops a command
 //!
 //! A command that the registry or the log stops returns why (`ShareStop`), and has printed nothing of
-//! it. Which requests were answered before, and that each history that a crash may leave begins the
-//! log, is said by `IsStoppedOver`. An output that fails, or a lack of memory for a reply line, is
-//! printed, and its request was answered (`IsCutOver`): sent again under its key it gets the same reply.
+//! it. `HasAnsweredSome` says which requests were answered before, and that each history that a crash
+//! may leave begins the log. An output that fails, or a lack of memory for a reply line, is printed, and
+//! its request was answered (`IsCut`): sent again under its key it gets the same reply.
 //!
 //! An input that is not a list of requests, or no list, is told as `apply_lines` and `import_list` tell
 //! it. Then nothing was acted on, and no call of the log was made.

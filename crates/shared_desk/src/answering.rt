@@ -148,7 +148,7 @@ fn refuse(alloc: Global, refusal: HttpRefusal) -> Result<Response, ShareStop>
     }
 }
 
-/// Follows the log, acts on what a message says, and returns the response. A cached response is taken
+/// Acts on what a message says, over the whole log, and returns the response. A cached response is taken
 /// out.
 pub(crate) fn answer<S: Alter, L: Log>(
     alloc: Global,

@@ -1,8 +1,8 @@
 //! Serves a registry over HTTP that follows a log which several machines share.
 //!
-//! `serve_shared` serves one connection after another, as `serve_all` of `registry_desk` does. Before
-//! it answers a query or acts on an order it acts on the lines of the log that other machines have
-//! appended.
+//! `serve_shared` serves one connection after another, as `serve_all` of `registry_desk` does, but over
+//! the whole log. Before it answers a query it acts on the lines that other machines have appended; at an
+//! order it does as `act` of `shared_registry`.
 //!
 //! # One message
 //!

@@ -87,8 +87,7 @@ fn remember(
     cache.keep(said, done);
 }
 
-/// Reads one message from the source, follows the log, acts on the message, and writes its response to
-/// the sink.
+/// Reads one message from the source, acts on it over the whole log, and writes its response to the sink.
 ///
 /// Returns `Broken` only if the source failed in this call, before the message was complete: then
 /// nothing is written and nothing was acted on.

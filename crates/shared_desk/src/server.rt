@@ -106,8 +106,8 @@ fn serve_beside<C: Connections, S: Alter, L: Log>(
 
 /// Serves at most `count` connections, one after another, over the log that the registry follows.
 ///
-/// Before it answers a query or acts on an order it acts on the lines of the log that the registry has
-/// not acted on. What is written for each message is its response over the history of the whole log, as
+/// Before it answers a query it acts on the lines of the log that the registry has not acted on, and at
+/// an order it does as `act` of `shared_registry`. What is written for each message is its response over the history of the whole log, as
 /// it was at some instant of serving it; or refusal 30 or 31; or a prefix if the peer failed.
 ///
 /// A call of the log without an answer and a lack of memory get refusal 30 or 31, and the server goes

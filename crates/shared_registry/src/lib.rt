@@ -18,12 +18,14 @@
 //!
 //! # Acting on requests
 //!
-//! [`act`] follows the log and then acts on one request. A new one is appended to the log between
-//! its rows and its commit. The reply is that of the history of the whole log at some instant of the
-//! call, and the registry then follows the log with the request in it (`IsAnswered`). So no answer is
-//! older than one that any machine gave before the call, and an acknowledged request is in the log. If
-//! another machine has taken the number, `act` begins again. A line that is there already is its own
-//! if it has the same bytes.
+//! [`act`] acts on one request over the history that the registry has. A new one is appended to the
+//! log between its rows and its commit: that the log takes its line shows that it had no other behind
+//! the record (`HasActed`). Any other request is answered once a read shows that. If there are other
+//! lines, `act` acts on them and begins again. So it does with a line that has the same bytes as the
+//! one just offered: an earlier append that seemed to fail has taken effect, and the request is then a
+//! repeat. The reply is that of the history of the whole log at some instant of the call, and the
+//! registry then follows the log with the request in it (`IsAnswered`). So no answer is older than one
+//! that any machine gave before the call, and an acknowledged request is in the log.
 //!
 //! After a call without an answer (`Log`) nothing is committed, and the registry goes on. The log may
 //! have the line, or take it later; a later call then acts on it, and a repeat of the request gets
