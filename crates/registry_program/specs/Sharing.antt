@@ -138,6 +138,7 @@ module _ {H K : Type 0} (k : logs.Ghosts H K) where
       pub taken : IsTakenUp address old found it middle (Ok cursor)
       pub does : Does found new middle after cursor ends
 
+    -- one or the other
     abbrev pub FollowsAt : {S : Type 0} {g : store.Ghosts S} → List ℕ → (H → H → Registry S g → Registry S g → Cursor K → Ends → Type 0) → H → H → Registry S g → Registry S g → Ends → Type 0
     FollowsAt address Does old new it after ends = IsNotFollowed address old new it after ends ⊎ IsFollowed address Does old new it after ends
 
