@@ -197,6 +197,7 @@ fn trouble_of(fault: Option<CallFault>, stop: ShareStop) -> Trouble {
     match stop {
         ShareStop::OtherRecord(n) => Trouble::OtherRecord(n),
         ShareStop::Ahead => Trouble::Known("has fewer lines than the record of the store"),
+        ShareStop::Empty => Trouble::Known("has no line"),
         ShareStop::Full => Trouble::Known("has so many lines that no other is counted"),
         ShareStop::Log(_) | ShareStop::Registry(_) | ShareStop::NoMemory => {
             Trouble::Known(words_for_call(fault))

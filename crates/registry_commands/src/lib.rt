@@ -162,7 +162,7 @@ pub use messages::{
 };
 pub use record_lines::Found;
 pub use recording::history;
-pub use replaying::{replay, replay_on, take_founding};
+pub use replaying::{found_or_open, replay, replay_on, take_founding};
 pub use reporting::report;
 pub use status::ExitStatus;
 pub use stops::tell_stop;

@@ -155,8 +155,14 @@ fn open_there<S: Alter>(
     }
 }
 
-/// Founds a registry on a connection, or opens the one that is there.
-fn found_or_open<S: Alter>(
+/// Founds a registry on a connection, or opens the one that is there, whatever its founding. It is then
+/// new: not poisoned, and without a transaction.
+///
+/// # Errors
+///
+/// `Store` if the store refuses or fails, or a transaction is open, `Memory` if out of memory, and
+/// `Foreign` if the store holds another database or the rows of no registry. The connection comes back.
+pub fn found_or_open<S: Alter>(
     alloc: Global,
     conn: Connection<S>,
     founding: &Founding,

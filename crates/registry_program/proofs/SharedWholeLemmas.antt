@@ -62,6 +62,7 @@ module _ {S : Type 0} {g : Ghosts S} {L : Type 0} (l : log.Ghosts L) (lines : L 
   left_following c h (stops.Log fault) none it = it.0
   left_following c h (stops.OtherRecord n) none it = (it.0, it.1, it.2)
   left_following c h stops.Ahead none it = absurd it
+  left_following c h stops.Empty none it = absurd it
   left_following c h stops.Full none it = it.0
   left_following c h stops.NoMemory none it = it
 

@@ -77,6 +77,7 @@ TellsStop (stops.Log log_faults.Refused) ends = IsLogFailure ends
 TellsStop (stops.Log log_faults.BadAnswer) ends = IsLogFailure ends
 TellsStop (stops.OtherRecord n) ends = IsLogFailure ends
 TellsStop stops.Ahead ends = IsLogFailure ends
+TellsStop stops.Empty ends = IsLogFailure ends
 TellsStop stops.Full ends = IsLogFailure ends
 
 module _ {S L : Type 0} {g : store.Ghosts S} (l : log.Ghosts L) (it after : Registry S g) (log : L) (end : Result (Cursor L) (ShareStop × L)) where

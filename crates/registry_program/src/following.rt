@@ -52,6 +52,7 @@ pub(crate) fn fail_by<E: Sink>(errors: &mut E, stop: ShareStop) -> ExitStatus
         ShareStop::Log(LogFault::BadAnswer) => fail_log(errors),
         ShareStop::OtherRecord(_) => fail_log(errors),
         ShareStop::Ahead => fail_log(errors),
+        ShareStop::Empty => fail_log(errors),
         ShareStop::Full => fail_log(errors),
     }
 }

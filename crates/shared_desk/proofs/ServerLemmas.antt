@@ -115,6 +115,7 @@ module _ {S : Type 0} {g : Ghosts S} {L : Type 0} (l : LogGhosts L) (lines : L �
   unanswered bytes response served cache (stops.Registry fault) sent told none it = it
   unanswered bytes response served cache (stops.OtherRecord n) sent told none it = it
   unanswered bytes response served cache stops.Ahead sent told none it = it
+  unanswered bytes response served cache stops.Empty sent told none it = it
   unanswered bytes response served cache stops.Full sent told none it = it
 
   served_visit : (bytes : List ℕ) (response : Response) (served : Served) (cache : Cache) (stop : Option ShareStop) → IfOk served.status (λ sent. sent ≡ response.status) → IsToldBy stop response

@@ -21,6 +21,7 @@ unavailable_for (stops.Log log_faults.Refused) = unavailable.StoreFault
 unavailable_for (stops.Log log_faults.BadAnswer) = unavailable.StoreFault
 unavailable_for (stops.OtherRecord n) = unavailable.StoreFault
 unavailable_for stops.Ahead = unavailable.StoreFault
+unavailable_for stops.Empty = unavailable.StoreFault
 unavailable_for stops.Full = unavailable.StoreFault
 unavailable_for stops.NoMemory = unavailable.NoMemory
 
@@ -31,6 +32,7 @@ may_pass stops.NoMemory = true
 may_pass (stops.Registry fault) = false
 may_pass (stops.OtherRecord n) = false
 may_pass stops.Ahead = false
+may_pass stops.Empty = false
 may_pass stops.Full = false
 
 -- the stop for the fault of a query

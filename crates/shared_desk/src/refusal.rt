@@ -22,6 +22,7 @@ pub(crate) fn unavailable_for(stop: ShareStop) -> Unavailable
         ShareStop::Log(LogFault::BadAnswer) => Unavailable::StoreFault,
         ShareStop::OtherRecord(_) => Unavailable::StoreFault,
         ShareStop::Ahead => Unavailable::StoreFault,
+        ShareStop::Empty => Unavailable::StoreFault,
         ShareStop::Full => Unavailable::StoreFault,
         ShareStop::NoMemory => Unavailable::NoMemory,
     }
@@ -37,6 +38,7 @@ pub(crate) fn may_pass(stop: ShareStop) -> bool
         ShareStop::Registry(_) => false,
         ShareStop::OtherRecord(_) => false,
         ShareStop::Ahead => false,
+        ShareStop::Empty => false,
         ShareStop::Full => false,
     }
 }
@@ -60,6 +62,7 @@ pub(crate) fn fault_behind(stop: Option<ShareStop>) -> Option<Fault>
         Some(ShareStop::Log(_)) => None,
         Some(ShareStop::OtherRecord(_)) => None,
         Some(ShareStop::Ahead) => None,
+        Some(ShareStop::Empty) => None,
         Some(ShareStop::Full) => None,
         Some(ShareStop::NoMemory) => None,
         None => None,

@@ -1,46 +1,31 @@
 -- A registry that follows a log.
-use Rattle.std.proofs.Common.{◌≡◌, ◌≢◌, ◌≤◌, ◌<◌, ◌⊎◌, ◌∙◌, ◌+◌, ℕ, suc, List, [], ◌∷◌, ◌++◌, length, drop, slice_get, Some, None, Bool, true, false, inl, inr, refl, sym, ap, subst, arith}
+use Rattle.std.proofs.Common.{◌≡◌, ◌≢◌, ◌≤◌, ◌<◌, ◌⊎◌, ◌∙◌, ◌+◌, ℕ, List, [], ◌∷◌, ◌++◌, length, drop, slice_get, Some, Bool, true, false, inl, inr, refl, sym, ap, subst, arith}
 use Rattle.std.specs.Prelude.{nat_eq}
 use Rattle.std.proofs.lemmas.Bool.{eqb-false, eqb-true}
 use Rattle.std.proofs.lemmas.List.{append-nil, length-append}
-use Rattle.std.proofs.lemmas.Option.{slice_get_within}
 use Rattle.std.proofs.Math.Seq.{drop-append_seam}
 use Rattle.sqlite.specs.Store.{Ghosts}
 use Rattle.sqlite.specs.State.{State}
-use Rattle.registry_rules.specs.History.{History, with_deed}
-use Rattle.registry_rules.specs.Reply.{act_text}
-use Rattle.registry_rules.specs.Run.{Legal, after_one, after_verdict, reply_of, reply_to}
-use Rattle.registry_rules.specs.Verdict.{verdict}
-use Rattle.registry_rules.specs.declared.deed.Deed.{Deed}
-use Rattle.registry_rules.specs.declared.order.Request.{Request}
-use Rattle.registry_rules.specs.declared.verdict.Reply.{Reply}
-use Rattle.registry_rules.specs.declared.verdict.Reply.TheVariants.{Done}
-use Rattle.registry_rules.specs.declared.verdict.Verdict.{Verdict}
-use Rattle.registry_rules.specs.declared.verdict.Verdict.TheVariants.{Kept, Refused, New}
+use Rattle.registry_rules.specs.History.{History}
+use Rattle.registry_rules.specs.Run.{Legal}
 use Rattle.registry_rules.proofs.RunLemmas.{legal_after}
-use Rattle.registry_wire.specs.Record.{accepted_line}
 use Rattle.registry_laws.specs.Machines.{BeginsWith, IsOfMachine, LeadsTo}
 use Rattle.registry_laws.specs.Records.{record_of}
-use Rattle.registry_laws.proofs.MachineLemmas.{appended_twice, whole_beginning}
+use Rattle.registry_laws.proofs.MachineLemmas.{appended_twice}
 use Rattle.registry_tables.specs.Rows.{newest}
 use Rattle.registry_store.specs.Promise.{Leaves, Represents, state_of}
-use Rattle.registry_store.specs.Queries.{IsUntouched}
-use Rattle.registry_store.specs.Witness.{WasSeen}
 use Rattle.registry_store.specs.declared.registry.Registry.{Registry}
-use Rattle.shared_log.specs.Calls.{LogLines, AppendMeans, AtSomeInstant, Grows, IsKept, IsPage}
-use Rattle.shared_log.specs.declared.answers.AppendAnswer.TheVariants as answers
+use Rattle.shared_log.specs.Calls.{LogLines, AtSomeInstant, Grows, IsKept, IsPage}
 use Rattle.shared_log.specs.declared.answers.PageAnswer.{PageAnswer}
 use Rattle.shared_log.specs.declared.fault.LogFault.{LogFault}
 use Rattle.shared_log.specs.declared.fault.LogFault.TheVariants.{BadAnswer}
 use Rattle.shared_log.specs.declared.log.Log.{Ghosts as LogGhosts}
-use Rattle.shared_registry.specs.declared.cursor.AppendFault.TheVariants as faults
 use Rattle.shared_registry.specs.declared.cursor.Cursor.{Cursor}
 use Rattle.shared_registry.specs.declared.stop.ShareStop.{ShareStop}
 use Rattle.shared_registry.specs.declared.stop.ShareStop.TheVariants as stops
-use Rattle.shared_registry.specs.Cursors.{HasLine, HasNoLine, WasShown, accepted_as}
 use Rattle.shared_registry.specs.Follows.{Follows, FollowsLater, HasFailed, HasFollowed, HasFollowedPage, HasGoneOn, IsLeft}
 use Rattle.shared_registry.specs.Lines.{Continues, GoesOver, IsStoppedBefore, IsStoppedIn}
-use Rattle.shared_registry.proofs.LineLemmas.{after_new, continued, leads_nowhere, leads_on, over_one}
+use Rattle.shared_registry.proofs.LineLemmas.{leads_nowhere, leads_on, over_one}
 
 -- ---- lists that grow
 
@@ -197,6 +182,7 @@ module _ {S : Type 0} {g : Ghosts S} {L : Type 0} (l : LogGhosts L) (lines : L �
   stopped_at c new c_new h last (line ∷ others) more now leads of next at there stops.NoMemory it = (last, leads, record { represents = it; of_machine = of; next = next })
   stopped_at c new c_new h last (line ∷ others) more now leads of next at there (stops.Log fault) it = absurd it
   stopped_at c new c_new h last (line ∷ others) more now leads of next at there stops.Ahead it = absurd it
+  stopped_at c new c_new h last (line ∷ others) more now leads of next at there stops.Empty it = absurd it
 
   -- a page was acted on up to what stopped it
   pub page_stopped : (old : Registry S g) (c : Cursor L) (new : Registry S g) (c_new : Cursor L) (h : History) (page : PageAnswer) → Follows l lines old c h → IsRead (lines c.log) (lines c_new.log) h page
@@ -241,6 +227,7 @@ module _ {S : Type 0} {g : Ghosts S} {L : Type 0} (l : LogGhosts L) (lines : L �
     record { line = it.4.line; there = earlier_start (lines start.log) (lines c.log) (lines c_new.log) _ grown it.4.there; other = it.4.other },
   )
   left_since start c new c_new h now grown leads stops.Ahead it = it
+  left_since start c new c_new h now grown leads stops.Empty it = it
   left_since start c new c_new h now grown leads stops.Full it = ((it.0.0, leads_on h now it.0.0 leads it.0.1, it.0.2), it.1)
   left_since start c new c_new h now grown leads stops.NoMemory it = (it.0, leads_on h now it.0 leads it.1, it.2)
 

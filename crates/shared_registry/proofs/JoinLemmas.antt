@@ -237,6 +237,7 @@ module _ {L : Type 0} (l : LogGhosts L) (lines : L → LogLines) (h : History) w
   page_other c now part page passed is some at reads (stops.Log fault) it = record { old = c.log; grown = grows_none (lines c.log); failed = inr (c.next, page, reads, it.0, it.1, it.2) }
   page_other c now part page passed is some at reads (stops.OtherRecord n) it = subst (IsApart (lines c.log) (lines now) h) (sym it.1) (page_apart c now part page it.0 passed is at it.2 it.3 it.4 it.5)
   page_other c now part page passed is some at reads stops.Ahead it = page_short c now part page passed is some at it.0 it.1
+  page_other c now part page passed is some at reads stops.Empty it = absurd it
   page_other c now part page passed is some at reads stops.Full it = let long = long_record c part is.rest passed is.next in omega (arith, it, long)
   page_other c now part page passed is some at reads stops.NoMemory it = absurd it
 
@@ -247,6 +248,7 @@ module _ {L : Type 0} (l : LogGhosts L) (lines : L → LogLines) (h : History) w
   unread c (stops.Log fault) it = absurd it
   unread c (stops.OtherRecord n) it = absurd it
   unread c stops.Ahead it = absurd it
+  unread c stops.Empty it = absurd it
   unread c stops.Full it = absurd it
 
   -- ---- lines that are appended
@@ -293,6 +295,7 @@ module _ {L : Type 0} (l : LogGhosts L) (lines : L → LogLines) (h : History) w
   unshared_since start c now grown (stops.Log fault) it = record { old = it.old; grown = grows_on (lines start) (lines c) (lines it.old) grown it.grown; failed = it.failed }
   unshared_since start c now grown (stops.OtherRecord n) it = record { same = it.same; line = it.line; there = earlier_start (lines start) (lines c) (lines now) _ grown it.there; other = it.other }
   unshared_since start c now grown stops.Ahead it = earlier_start (lines start) (lines c) (lines now) _ grown it
+  unshared_since start c now grown stops.Empty it = it
   unshared_since start c now grown stops.Full it = it
   unshared_since start c now grown stops.NoMemory it = grows_on (lines start) (lines c) (lines now) grown it
 

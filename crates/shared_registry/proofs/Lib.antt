@@ -1,4 +1,5 @@
 pub mod FollowLemmas
+pub mod FoundedLemmas
 pub mod AppendLemmas
 pub mod ActLemmas
 pub mod AskLemmas

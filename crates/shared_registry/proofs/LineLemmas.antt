@@ -125,6 +125,7 @@ module _ {S : Type 0} {g : Ghosts S} (new : Registry S g) where
   before_line x line others n stops.NoMemory it = it
   before_line x line others n (stops.Log fault) it = it
   before_line x line others n stops.Ahead it = it
+  before_line x line others n stops.Empty it = it
   before_line x line others n stops.Full it = absurd it
 
 -- ---- what endures
@@ -178,6 +179,7 @@ stopped_so new h line So Also n none (stops.OtherRecord at) it = (it.0, it.1, no
 stopped_so new h line So Also n none stops.NoMemory it = it
 stopped_so new h line So Also n none (stops.Log fault) it = it
 stopped_so new h line So Also n none stops.Ahead it = it
+stopped_so new h line So Also n none stops.Empty it = it
 stopped_so new h line So Also n none stops.Full it = it
 
 -- ---- a request that is acted on if it has the expected line

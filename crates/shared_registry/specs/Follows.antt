@@ -58,6 +58,7 @@ module _ {S : Type 0} {g : Ghosts S} {L : Type 0} (l : LogGhosts L) (lines : L �
     IsLeft (stops.Log fault) = FollowsLater it_new c_new h × HasFailed l lines c.log c_new.log fault
     IsLeft (stops.OtherRecord n) = (x : History) × LeadsTo h x × Follows it_new c_new x × (n ≡ length (record_of x)) × HasOther (lines c.log) (lines c_new.log) x n
     IsLeft stops.Ahead = ⊥
+    IsLeft stops.Empty = ⊥
     IsLeft stops.Full = FollowsLater it_new c_new h × (c_new.next ≡ most_lines)
     IsLeft stops.NoMemory = FollowsLater it_new c_new h
 

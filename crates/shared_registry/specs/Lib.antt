@@ -3,3 +3,4 @@ pub mod Follows
 pub mod Lines
 pub mod Records
 pub mod Asks
+pub mod Founded

@@ -63,6 +63,7 @@ fault_of (stops.Registry fault) = Some fault
 fault_of (stops.Log fault) = None
 fault_of (stops.OtherRecord n) = None
 fault_of stops.Ahead = None
+fault_of stops.Empty = None
 fault_of stops.Full = None
 fault_of stops.NoMemory = None
 
@@ -84,6 +85,7 @@ module _ {S : Type 0} {g : Ghosts S} (new : Registry S g) where
   IsStoppedAt h line LeadsSo n stops.NoMemory = Represents new h
   IsStoppedAt h line LeadsSo n (stops.Log fault) = ⊥
   IsStoppedAt h line LeadsSo n stops.Ahead = ⊥
+  IsStoppedAt h line LeadsSo n stops.Empty = ⊥
   IsStoppedAt h line LeadsSo n stops.Full = ⊥
 
   -- the lines were acted on
@@ -99,6 +101,7 @@ module _ {S : Type 0} {g : Ghosts S} (new : Registry S g) where
   IsStoppedBefore h (line ∷ others) n stops.NoMemory = IsStoppedAt h line (Continues h line) n stops.NoMemory
   IsStoppedBefore h (line ∷ others) n (stops.Log fault) = ⊥
   IsStoppedBefore h (line ∷ others) n stops.Ahead = ⊥
+  IsStoppedBefore h (line ∷ others) n stops.Empty = ⊥
 
   -- the first of the lines were acted on, and then this stopped it
   pub record IsStoppedIn (h : History) (lines : LogLines) (n now : ℕ) (stop : ShareStop) : Type 0 where

@@ -25,6 +25,7 @@ IsOfReading stops.NoMemory = ⊤
 IsOfReading (stops.Log fault) = ⊥
 IsOfReading (stops.OtherRecord n) = ⊥
 IsOfReading stops.Ahead = ⊥
+IsOfReading stops.Empty = ⊥
 IsOfReading stops.Full = ⊥
 
 -- the first lines of both lists are the same, this many, and these are all of ours, or the next one is another or is not there
@@ -53,6 +54,7 @@ module _ {L : Type 0} (l : LogGhosts L) (lines : L → LogLines) (h : History) w
   IsUnshared start now (stops.Log fault) = HasFailed l lines start now fault
   IsUnshared start now (stops.OtherRecord n) = IsApart (lines start) (lines now) h n
   IsUnshared start now stops.Ahead = AtSomeInstant (lines start) (lines now) (λ log. length log < length (record_of h))
+  IsUnshared start now stops.Empty = ⊥
   IsUnshared start now stops.Full = most_lines < length (record_of h)
   IsUnshared start now stops.NoMemory = Grows (lines start) (lines now)
 
@@ -62,6 +64,7 @@ IsOtherPage ours theirs more next (stops.Registry fault) = ⊥
 IsOtherPage ours theirs more next (stops.Log fault) = (theirs ≡ []) × (more ≡ true) × (fault ≡ BadAnswer)
 IsOtherPage ours theirs more next (stops.OtherRecord n) = (count : ℕ) × (n ≡ next + count) × (count < length ours) × (count < length theirs) × (take count ours ≡ take count theirs) × (slice_get ours count ≢ slice_get theirs count)
 IsOtherPage ours theirs more next stops.Ahead = (theirs ≡ []) × (more ≡ false)
+IsOtherPage ours theirs more next stops.Empty = ⊥
 IsOtherPage ours theirs more next stops.Full = most_lines < next + length ours
 IsOtherPage ours theirs more next stops.NoMemory = ⊥
 

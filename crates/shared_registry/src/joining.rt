@@ -31,7 +31,7 @@ fn are_same(a: &Line, b: &Line) -> bool
 }
 
 /// Returns the line with this number, if there is one.
-fn line_at(lines: &[Line], n: usize) -> Option<&Line>
+pub(crate) fn line_at(lines: &[Line], n: usize) -> Option<&Line>
     ensures there { IfSome result (λ line. slice_get lines.now n ≡ Some line.now) }
     ensures past { IfNone result (length lines.now ≤ n) }
 {

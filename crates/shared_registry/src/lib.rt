@@ -38,10 +38,13 @@
 //! the log has another record (`IsApart`), that it ends before the record does, or which call failed
 //! (`IsUnshared`). Neither commits anything (`IsUntouched`).
 //!
+//! A store that is not there yet is made from the log: [`read_founding`] returns the founding with whose
+//! line the log begins.
+//!
 //! # What is appended
 //!
 //! A call appends no other line (`IsAsked`) than that of its request ([`act`]) or those of the record,
-//! each under its number ([`share`]). [`follow`] and [`join`] append nothing.
+//! each under its number ([`share`]). [`follow`], [`join`] and [`read_founding`] append nothing.
 //!
 //! # Premises
 //!
@@ -55,6 +58,7 @@ mod acting;
 mod cursor;
 mod expecting;
 mod following;
+mod founded;
 mod joining;
 mod line;
 mod record;
@@ -64,6 +68,7 @@ mod valid;
 pub use acting::act;
 pub use cursor::{AppendFault, Cursor};
 pub use following::follow;
+pub use founded::read_founding;
 pub use joining::{join, share};
 pub use stop::ShareStop;
 pub use valid::has_valid_fields;

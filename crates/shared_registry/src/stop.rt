@@ -19,6 +19,8 @@ pub enum ShareStop {
     OtherRecord(u32),
     /// The log has fewer lines than the record of the registry.
     Ahead,
+    /// The log has no line.
+    Empty,
     /// The record of the registry has 2^32 - 1 lines, so many that no other is counted.
     Full,
     /// Memory ran out.

@@ -42,6 +42,7 @@ pub(crate) fn write_stop(text: &mut String, stop: ShareStop) -> bool {
         }
         ShareStop::OtherRecord(n) => writeln!(text, "another record from line {n}").is_ok(),
         ShareStop::Ahead => writeln!(text, "ahead").is_ok(),
+        ShareStop::Empty => writeln!(text, "empty").is_ok(),
         ShareStop::Full => writeln!(text, "full").is_ok(),
         ShareStop::NoMemory => writeln!(text, "no memory").is_ok(),
     }
