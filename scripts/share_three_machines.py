@@ -11,7 +11,8 @@ Looked at, by the times of all messages: no answer is older than one that had co
 machine, and what was accepted is found from then on. In the end the three stores have the same record, which is the log, and are
 sound; the record has each order that was accepted, with its reply; and no number was granted twice.
 
-As a control the same clients send to three machines that share no log: they have to be found out.
+As a control the same clients send to three machines that share no log: they have to be found out. So have three machines that
+answer an order before the log has its line: a program between each of them and its etcd says too early that it was appended.
 
 Usage: scripts/share_three_machines.py [--seconds N] [--seed N] [PATH/TO/USBREG]. N is 300 if it is not given; a seed gives the same
 faults in the same order. Without root or one of the programs that it needs it says that it was skipped. The last line counts what
@@ -27,13 +28,16 @@ import sys
 import threading
 import time
 
-from lib.three_machines import NEEDED, PATIENCE, Machines, in_namespaces
+from lib.three_machines import EARLY_LOG, NEEDED, PATIENCE, Machines, in_namespaces
 from lib.usbreg import done, folder, program, same
 
 CLIENTS, SECONDS, CONTROL = 8, 300, 12
+# The seconds in which a line gets into the log that was sent to it too late.
+LATE = 2
 # The seconds that a client waits for a response, that a fault lasts, and that pass before the next one.
 WAIT, LASTS, BETWEEN = 25, (2.0, 5.0), (0.5, 2.0)
 SITE = "https://acme.example/"
+LOST = "orders that were accepted and are not in the record"
 Answer = collections.namedtuple("Answer", "begun ended count")
 
 
@@ -240,21 +244,32 @@ def granted_twice(record):
     return [number for number, count in numbers.items() if count > 1]
 
 
-def look_in_the_end(usbreg, machines, book):
-    """Compares stores, log and replies."""
-    wait_for_all(machines)
+def wrong_answers(book):
+    """Returns what is wrong with the answers, under its name."""
+    return {"answers that are older than earlier ones": older_answers(book.answers)[:3], "answers without what was accepted": book.wrong[:3]}
+
+
+def wrong_records(usbreg, machines, book):
+    """Ends the servers, and compares stores, log and replies. Returns the number of requests, and what is wrong, under its name."""
     lines = machines[0].lines()
     for machine in machines:
         machine.down = {"usbreg", "nginx"}
         machine.kill("usbreg", "nginx")
-    records = [done([usbreg, "history", it.store]).decode().splitlines() for it in machines]
-    for machine, record in zip(machines, records):
+    records = {it.address: done([usbreg, "history", it.store]).decode().splitlines() for it in machines}
+    for machine in machines:
         done([usbreg, "check", machine.store])
-        same(f"the record at {machine.address}, beside the log", (len(record), record == lines), (len(lines), True))
     kept = {(it["caller"], it["key"]): it["done"] for it in map(json.loads, lines[1:])}
-    same("orders that were accepted and are not in the record", [it for it, reply in book.accepted.items() if kept.get(it) != reply], [])
-    same("numbers that were granted twice", granted_twice(lines[1:]), [])
-    return len(lines) - 1
+    return len(lines) - 1, {
+        f"stores whose record is not the log of {len(lines)} lines": [(at, len(record)) for at, record in records.items() if record != lines],
+        LOST: [it for it, reply in book.accepted.items() if kept.get(it) != reply],
+        "numbers that were granted twice": granted_twice(lines[1:]),
+    }
+
+
+def nothing_is(wrong, said):
+    """Ends the script if something is wrong."""
+    for name, found in wrong.items():
+        same(f"{name} ({said})", found, [])
 
 
 def with_clients(machines, book, during):
@@ -275,11 +290,26 @@ def with_clients(machines, book, during):
 def control(usbreg, room):
     """Three machines that share no log have to be found out."""
     book = Book()
-    with Machines(usbreg, room, shares=False) as machines:
+    with Machines(usbreg, room, log=None) as machines:
         wait_for_all(machines)
         with_clients(machines, book, lambda: time.sleep(CONTROL))
     if not book.wrong or not older_answers(book.answers):
         sys.exit("FAILED: machines that share no log were not found out")
+
+
+def early_control(usbreg, room):
+    """Three machines that answer an order before the log has its line have to be found out."""
+    book = Book()
+    with Machines(usbreg, room, log=EARLY_LOG) as machines:
+        wait_for_all(machines)
+        with_clients(machines, book, lambda: time.sleep(CONTROL))
+        time.sleep(LATE)
+        # A machine that still serves acts on the whole log now.
+        for it in machines:
+            it.curl("/head")
+        wrong = wrong_records(usbreg, machines, book)[1]
+    if not wrong[LOST]:
+        sys.exit("FAILED: machines that answer before the log has the line were not found out")
 
 
 def main(seconds=SECONDS, seed=None, given=None):
@@ -289,16 +319,18 @@ def main(seconds=SECONDS, seed=None, given=None):
         print(f"SKIPPED: no machines were run; that needs root and {', '.join(NEEDED)}")
         return
     seed = random.randrange(1 << 32) if seed is None else seed
-    with folder() as room:
-        control(usbreg, room)
+    for it in (control, early_control):
+        with folder() as room:
+            it(usbreg, room)
     book = Book()
     with folder() as room, Machines(usbreg, room) as machines:
         wait_for_all(machines)
         made = with_clients(machines, book, lambda: fail_in_turn(machines, seconds, random.Random(seed)))
         said = f"seed {seed}, {sum(made.values())} faults"
-        same(f"answers that are older than earlier ones ({said})", older_answers(book.answers)[:3], [])
-        same(f"answers without what was accepted ({said})", book.wrong[:3], [])
-        count = look_in_the_end(usbreg, machines, book)
+        nothing_is(wrong_answers(book), said)
+        wait_for_all(machines)
+        count, wrong = wrong_records(usbreg, machines, book)
+        nothing_is(wrong, said)
     print(f"{said} of {len(made)} kinds; {book.sent} orders sent, {len(book.accepted)} accepted, {book.refused} refused, {book.unknown} without a reply; {book.asked} heads; {count} lines")
 
 

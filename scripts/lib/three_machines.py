@@ -12,7 +12,7 @@ import threading
 import time
 
 from lib.stopping import kill
-from lib.usbreg import CONTRIB, FOUNDING, content, done, remove, write
+from lib.usbreg import CONTRIB, FOUNDING, TOP, content, done, remove, write
 
 NEEDED = ("unshare", "nsenter", "ip", "nft", "mount", "etcd", "etcdctl", "nginx", "openssl", "curl")
 ALONE = "USBREG_MACHINES"
@@ -22,7 +22,9 @@ NAMES, GIVEN = ("one", "two", "three"), ("192.0.2.11", "192.0.2.12", "192.0.2.13
 # The disk of a machine: etcd makes two files of 64 MB for its log.
 DISK = "192m"
 NAME = "numbers"
-LOG = f"http://127.0.0.1:2379/{NAME}"
+# The log at etcd, and at a program before etcd that answers too early.
+ETCD, EARLY = 2379, 2378
+LOG, EARLY_LOG = (f"http://127.0.0.1:{it}/{NAME}" for it in (ETCD, EARLY))
 # The seconds after which a process that ended is started again, and those that a start of all may take.
 PAUSE, PATIENCE = 0.3, 120
 # A machine passes a message on to its own server, and one that is safe to send again to another machine while that is down.
@@ -84,8 +86,9 @@ def address_of(index):
 class Machine:
     """One machine. A thread starts each of its processes again that has ended, as systemd does, unless it is to be down."""
 
-    def __init__(self, usbreg, room, index, shares):
-        self.usbreg, self.index, self.shares = usbreg, index, shares
+    def __init__(self, usbreg, room, index, log):
+        self.usbreg, self.index, self.log = usbreg, index, log
+        self.names = ("etcd", *(["early"] if log == EARLY_LOG else []), "usbreg", "nginx")
         self.address, self.folder = address_of(index), f"{room}/m{index}"
         self.store = f"{self.folder}/numbers.db"
         os.mkdir(self.folder)
@@ -128,7 +131,9 @@ class Machine:
         if name == "nginx":
             return ["nginx", "-c", f"{self.folder}/nginx.conf", "-e", f"{self.folder}/nginx.log"]
         if name == "usbreg":
-            return [self.usbreg, "serve", self.store, "--port", "8080", *(["--log", LOG] if self.shares else [])]
+            return [self.usbreg, "serve", self.store, "--port", "8080", *(["--log", self.log] if self.log else [])]
+        if name == "early":
+            return [sys.executable, f"{TOP}/scripts/lib/early_log.py", str(EARLY), str(ETCD)]
         return ["etcd"]
 
     def settings(self):
@@ -148,7 +153,7 @@ class Machine:
 
     def start(self, name):
         if name == "usbreg" and not os.path.exists(self.store):
-            done([self.usbreg, "found", self.store, FOUNDING])
+            done(self.inside(self.usbreg, *(["replay", self.store, self.log] if self.log else ["found", self.store, FOUNDING])))
         with open(f"{self.folder}/{name}.out", "wb") as out:
             env = {**os.environ, **(self.settings() if name == "etcd" else {})}
             self.processes[name] = subprocess.Popen(self.inside(*self.words(name)), env=env, stdin=subprocess.DEVNULL, stdout=out, stderr=out)
@@ -157,7 +162,7 @@ class Machine:
         """Starts what has ended, until the machine ends."""
         while not self.ends.wait(PAUSE):
             with self.guard:
-                for name in ("etcd", "usbreg", "nginx"):
+                for name in self.names:
                     process = self.processes.get(name)
                     # (a start may fail where the disk is full: it is tried again)
                     with contextlib.suppress(OSError, SystemExit):
@@ -185,7 +190,7 @@ class Machine:
         """Kills all of the machine, and starts nothing again."""
         self.ends.set()
         with self.guard:
-            self.down = {"etcd", "usbreg", "nginx"}
+            self.down = set(self.names)
             kill(*self.processes.values())
 
     # ---- its faults
@@ -228,7 +233,10 @@ class Machine:
 
     def lines(self):
         """Returns the lines of the log."""
-        return self.etcdctl("get", f"{NAME}/", "--prefix", "--print-value-only").stdout.decode().splitlines()
+        ran = self.etcdctl("get", f"{NAME}/", "--prefix", "--print-value-only")
+        if ran.returncode != 0:
+            sys.exit(f"FAILED: the lines of the log: {ran.stderr!r}")
+        return ran.stdout.decode().splitlines()
 
     def said(self):
         """Returns what the server and etcd wrote last."""
@@ -264,18 +272,18 @@ class Machine:
 
 
 class Machines:
-    """Three of them, for a `with`."""
+    """Three of them, for a `with`. They share the log at an address of each machine, or none."""
 
-    def __init__(self, usbreg, room, shares=True):
+    def __init__(self, usbreg, room, log=LOG):
         call("ip", "link", "set", "lo", "up")
         call("ip", "link", "add", "hub", "type", "bridge")
         call("ip", "addr", "add", f"{NET}.100/24", "dev", "hub")
         call("ip", "link", "set", "hub", "up")
         call("openssl", "req", "-x509", "-newkey", "ec", "-pkeyopt", "ec_paramgen_curve:prime256v1", "-nodes", "-keyout", f"{room}/ca.key", "-out", f"{room}/ca.crt", "-subj", "/CN=peers", "-days", "2")
-        self.all = [Machine(usbreg, room, index, shares) for index in range(COUNT)]
+        self.all = [Machine(usbreg, room, index, log) for index in range(COUNT)]
         for it in self.all:
             it.thread.start()
-        if shares:
+        if log:
             self.all[0].share()
         for it in self.all:
             it.down = set()
