@@ -60,8 +60,10 @@ def from_nothing(machines, room, package):
         it.certify()
     same("the health of etcd", ["is healthy" in it for it in at_once([lambda it=it: it.step("etcd", 1) for it in machines])], [True] * 3)
     for it in machines:
-        it.store()
-    same("what sharing says", one.step("The store and the log", 2), "")
+        it.step("The store and the log")
+    one.found()
+    for it in (two, three):
+        it.fill()
     at_once([it.serve for it in machines])
     password = re.search(rf"^{NAME} (\S+)$", one.step("The proxies"), re.MULTILINE)[1]
     one.take("/etc/nginx/usbreg.users", f"{room}/usbreg.users")
@@ -168,7 +170,8 @@ def begin_anew(stack, room, name, package, others, add):
     if members:
         machine.must_run(f"sed -i 's|^ETCD_INITIAL_CLUSTER=.*|{members}|' /etc/default/etcd")
     same("the health of etcd", "is healthy" in machine.step("etcd", 1), True)
-    machine.store()
+    machine.step("The store and the log")
+    machine.fill()
     machine.serve()
     machine.users()
     machine.front()

@@ -133,7 +133,8 @@ fn replay<'a>(alloc: Global) -> Result<Command<'a>, AllocError>
         "replay",
         "Run the lines of a record over a registry, and compare the replies",
         "If the record begins with a founding, STORE may be a new file. Run again over a record that \
-         has grown, it goes on.\n\nExample:\n  usbreg found numbers.db examples/founding.toml\n  usbreg \
+         has grown, it goes on. The record in a log in etcd is called by the URL of the log, \
+         http://HOST:PORT/NAME.\n\nExample:\n  usbreg found numbers.db examples/founding.toml\n  usbreg \
          apply numbers.db examples/first.jsonl\n  usbreg history numbers.db > record.jsonl\n  usbreg \
          replay copy.db record.jsonl",
     );
@@ -145,7 +146,7 @@ fn replay<'a>(alloc: Global) -> Result<Command<'a>, AllocError>
         alloc,
         "record",
         "RECORD",
-        "A record as history prints it; - for standard input",
+        "A record as history prints it, or the URL of a log; - for standard input",
     );
     let command = with_arg(command, record)?;
     with_verbose(alloc, command)

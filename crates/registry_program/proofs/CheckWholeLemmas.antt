@@ -6,7 +6,6 @@ use Rattle.registry_rules.specs.Accepted.{AreValid}
 use Rattle.registry_rules.specs.History.{History}
 use Rattle.registry_store.specs.Promise.{Represents, state_of}
 use Rattle.registry_commands.specs.declared.checking.Counts.{Counts}
-use Rattle.registry_commands.specs.declared.messages.Failure.TheVariants.{File}
 use Rattle.registry_commands.specs.declared.status.ExitStatus.TheVariants.{Success}
 use Rattle.registry_commands.specs.Checks.{IsCountOf, sound_text}
 use Rattle.registry_commands.specs.Ends.{Ends, Receives, Sunk}

@@ -3,8 +3,10 @@ pub mod StatusLemmas
 pub mod LeavesLemmas
 pub mod ForetoldLemmas
 pub mod WholeLemmas
+pub mod ConnectionLemmas
 pub mod ReplayWholeLemmas
 pub mod CheckWholeLemmas
 pub mod SharedWholeLemmas
 pub mod SharedActLemmas
+pub mod SharedReplayLemmas
 pub mod PerformsLemmas

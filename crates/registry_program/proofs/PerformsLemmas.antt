@@ -16,6 +16,7 @@ use Rattle.registry_program.specs.Serving.{limit_of}
 use Rattle.registry_program.proofs.CheckWholeLemmas.{check_whole}
 use Rattle.registry_program.proofs.ReplayWholeLemmas.{replays_wholly}
 use Rattle.registry_program.proofs.SharedActLemmas.{applies_shared_whole, imports_shared_whole}
+use Rattle.registry_program.proofs.SharedReplayLemmas.{replays_shared_whole}
 use Rattle.registry_program.proofs.SharedWholeLemmas.{serves_shared_whole, shares_whole}
 use Rattle.registry_program.proofs.WholeLemmas.{apply_whole, exports_whole, foretells_whole, found_whole, head_whole, imports_whole, record_whole, reports_whole, serves_whole}
 
@@ -30,6 +31,7 @@ module _ {H F I R W IN K : Type 0} (m : host.Ghosts H F I) (d : disk.Ghosts F) (
   performs_whole (command.CheckFounding founding) old new input input_new ends is = tt
   performs_whole (command.CheckImport path list caller key org vendor) old new input input_new ends is = (is.0, is.1, foretells_whole m d s i input input_new old new path list is.0 ends is.2)
   performs_whole (command.Replay path file) old new input input_new ends is = replays_wholly m d s i input input_new old new path file ends is
+  performs_whole (command.ReplayShared path address) old new input input_new ends is = replays_shared_whole m d k l old new path address ends is.1
   performs_whole (command.Serve path port count) old new input input_new ends is = serves_whole m d s c r w i old new path port (limit_of count) ends is.1
   performs_whole (command.ServeShared path port count address) old new input input_new ends is = serves_shared_whole m d c r w k l old new path port (limit_of count) address ends is.1
   performs_whole (command.Share path address) old new input input_new ends is = shares_whole m d k l old new path address ends is.1

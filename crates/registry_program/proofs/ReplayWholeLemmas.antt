@@ -1,23 +1,21 @@
 -- What the files of a store hold after a record was replayed.
-use Rattle.std.proofs.Common.{◌≡◌, ◌⊎◌, inl, inr, ℕ, ◌+◌, ◌≤◌, true, false, List, [], ◌∷◌, ◌++◌, Option, Some, None, refl, sym, ap, subst, ◌∙◌, arith}
+use Rattle.std.proofs.Common.{◌≡◌, ◌⊎◌, inl, inr, ℕ, true, false, List, [], ◌∷◌, ◌++◌, Option, Some, None, refl, sym, ap, subst, ◌∙◌, arith}
 use Rattle.std.specs.Prelude.{◌≢◌, Result, Ok, Err}
-use Rattle.std.proofs.Math.Logic.{∥∥₁_map, ∥∥₁_elim}
 use Rattle.sqlite_disk.specs.declared.Disk as disk
 use Rattle.sqlite_store.specs.declared.store.FileStore.{FileStore}
-use Rattle.sqlite.specs.Files.{HoldsDatabase, file_state, over_files}
+use Rattle.sqlite.specs.Files.{over_files}
 use Rattle.sqlite.specs.Held.{Held}
-use Rattle.sqlite.specs.State.{HasCleanDisk, IsLive}
+use Rattle.sqlite.specs.State.{HasCleanDisk}
 use Rattle.sqlite.specs.Store.{Ghosts}
 use Rattle.byte_streams.specs.declared.streams.Source as source
 use Rattle.registry_rules.specs.declared.accepted.Accepted.{Accepted}
 use Rattle.registry_rules.specs.declared.founding.Founding.{Founding}
 use Rattle.registry_rules.specs.History.{History}
-use Rattle.registry_rules.specs.Run.{Legal, after_one}
-use Rattle.registry_tables.specs.Rows.{Rows, newest}
+use Rattle.registry_rules.specs.Run.{after_one}
+use Rattle.registry_tables.specs.Rows.{newest}
 use Rattle.registry_store.specs.declared.registry.Registry.{Registry}
-use Rattle.registry_store.specs.Promise.{IsFreshAt, Leaves, Represents, connection_of, state_of}
-use Rattle.registry_store.specs.Files.{FilesHoldEither, IsEither}
-use Rattle.registry_store.proofs.CrashLemmas.{closed_clean, in_newest, later_from}
+use Rattle.registry_store.specs.Promise.{Represents, connection_of, state_of}
+use Rattle.registry_store.specs.Files.{IsEither}
 use Rattle.registry_store.proofs.RunLemmas.{leaves_weaker}
 use Rattle.registry_commands.specs.declared.entries.Entry.{Entry}
 use Rattle.registry_commands.specs.declared.entries.Entry.TheVariants as says
@@ -27,7 +25,7 @@ use Rattle.registry_commands.specs.declared.messages.Failure.{Failure}
 use Rattle.registry_commands.specs.declared.status.ExitStatus.{ExitStatus}
 use Rattle.registry_commands.specs.declared.status.ExitStatus.TheVariants.{Success, Failed}
 use Rattle.registry_commands.specs.declared.unread.Unread.{Unread}
-use Rattle.registry_commands.specs.Ends.{Ends, Output, Sunk}
+use Rattle.registry_commands.specs.Ends.{Ends, Output}
 use Rattle.registry_commands.specs.Entries.{entry_in}
 use Rattle.registry_commands.specs.Failures.{Prints}
 use Rattle.registry_commands.specs.Messages.{failure_line}
@@ -38,9 +36,9 @@ use Rattle.registry_commands.proofs.RecordLineLemmas.{may_have}
 use Rattle.registry_program.specs.declared.host.Host as host
 use Rattle.registry_program.specs.Outputs.{earlier}
 use Rattle.registry_program.specs.Replaying.{BeginsReplay, IsReplayedIn, ReplaysFrom, ReplaysLines, ReplaysOver, ReplaysRecord}
-use Rattle.registry_program.specs.Whole.{IsAfterRecord, IsNear, IsReplayedTo, IsUnreplayed, IsUsed, ReplaysWholly, ReplaysWhollyFrom}
-use Rattle.registry_program.proofs.LeavesLemmas.{LeavesSome, leaves_itself, same_of_either}
-use Rattle.registry_program.proofs.OpeningLemmas.{shows_held}
+use Rattle.registry_program.specs.Whole.{IsAfterRecord, IsNear, IsReplayedTo, IsUnreplayed, ReplaysWholly, ReplaysWhollyFrom}
+use Rattle.registry_program.proofs.ConnectionLemmas.{carried_in, unreplayed_in, used_in}
+use Rattle.registry_program.proofs.LeavesLemmas.{LeavesSome, leaves_itself}
 use Rattle.registry_program.proofs.WholeLemmas.{carried, kept_unless_failed, runs_whole}
 
 -- before anything is read all is to come from the source
@@ -225,22 +223,6 @@ module _ {H F I : Type 0} (m : host.Ghosts H F I) (d : disk.Ghosts F) where
       abbrev last : Held (FileStore F d)
       last = connection_left over_files on.left
 
-      used_in : IsUsed m d old new path true on.closes.files
-      used_in = record { opened = on.opened; first = on.connected.files; opens = on.connected.opens; done = on.opened; lets_go = on.closes.lets_go }
-
-      -- what the connection shows of a history that the files held
-      shown : (h : History) → Legal h → (from : ℕ) → FilesHoldEither from (m.holds old path) h h → HasCleanDisk (file_state on.conn)
-          → ∥ ((v : ℕ) × (from ≤ v) × IsLive (file_state on.conn) × IsFreshAt v (file_state on.conn) h) ∥₁
-      shown h legal from held was =
-          let it = on.connected.connected was in
-          ∥∥₁_map (subst (λ i. FilesHoldEither from i h h) (sym on.connected.opens.found) held) (λ found. (
-            found.4,
-            found.5,
-            it.0.1,
-            subst (IsFreshAt found.4 (file_state on.conn)) (same_of_either h found.2 found.3)
-                (λ _. (it.0.0.is_open, it.0.0.clean, subst (λ db. Rows found.4 db found.2) (sym (it.1.holds found.0 found.1)) found.6)),
-          ))
-
       replayed : ends.status ≡ on.before → (it after : Registry (FileStore F d) over_files) → IsFoundOrOpen over_files on.conn founding it → last ≡ connection_of after
           → IsReplayed (Some founding) (ahead (r.remaining middle) begun) (ahead (r.remaining source_new) on.ended) on.ended begun.lines (r.failures middle) (r.failures source_new) it after (earlier ends on.errors on.before).errors on.before
           → IsReplayedTo m d r source old new path true ends
@@ -252,46 +234,18 @@ module _ {H F I : Type 0} (m : host.Ghosts H F I) (d : disk.Ghosts F) where
             lines = told.lines;
             come = passes told.lines told.come;
             files = on.closes.files;
-            used = used_in;
-            holds = λ h legal _ from held honest.
-                let clean_last : HasCleanDisk (file_state last) = closed_clean last on.closes.files on.closes.closed.closed honest in
-                let clean : HasCleanDisk (state_of after) = subst (λ c. HasCleanDisk (file_state c)) is_of clean_last in
-                let was = told.was_clean clean in
-                ∥∥₁_map (shown h legal from held (opened.clean was)) (λ fresh.
-                let left = told.leaves h (opened.opened fresh.2 fresh.0 h legal fresh.3 was) clean in
-                let leaves : Leaves newest (file_state last) (IsEither left.0 left.1) = subst (λ c. Leaves newest (file_state c) (IsEither left.0 left.1)) (sym is_of) left.3 in (
-                  left.0,
-                  left.1,
-                  subst (λ (status : ExitStatus). IsAfterRecord told.lines status h left.0 left.1) (sym same) left.2,
-                  on.closes.closed.holds same newest left.0 left.1 (in_newest (file_state last) (IsEither left.0 left.1) (λ _. leaves)) honest,
-                ));
+            used = used_in m d old on.opened path on.conn on.connected on.opened new last on.errors ends.errors.new on.before ends.status on.closes;
+            holds = λ h.
+                carried_in m d old on.opened path on.conn on.connected on.opened new last on.errors ends.errors.new on.before ends.status on.closes founding same it after opened is_of told.was_clean h
+                (IsAfterRecord told.lines ends.status h)
+                (λ stands clean. subst (λ (status : ExitStatus). LeavesSome after (IsAfterRecord told.lines status h)) (sym same) (told.leaves h stands clean));
           }
 
       unreplayed : ends.status ≡ on.before → on.before ≡ Failed → (failure : Failure) → IsLeftFound over_files on.conn founding failure last
           → Prints (earlier ends on.errors on.before).errors (failure_line failure) → IsUnreplayed m d old new path ends
-      unreplayed same failed failure left prints = record {
-        files = on.closes.files;
-        used = used_in;
-        failure = failure;
-        kind = left.kind;
-        fails = (
-          on.silent,
-          same ∙ failed,
-          subst (λ (told : Sunk). Prints (record { old = ends.errors.old; new = told }) (failure_line failure))
-              (sym (on.closes.closed.kept (λ success. absurd (cc (failed, success)))).1) prints,
-        );
-        foreign = λ told honest version db h held legal rows.
-            let clean : HasCleanDisk (file_state last) = closed_clean last on.closes.files on.closes.closed.closed honest in
-            let found = subst (λ i. HoldsDatabase i db) (sym on.connected.opens.found) held in
-            left.foreign told clean version h legal (shows_held d on.connected.files on.conn on.connected.connected (left.clean clean) version db h found rows);
-        holds = λ h legal from held honest.
-            let clean : HasCleanDisk (file_state last) = closed_clean last on.closes.files on.closes.closed.closed honest in
-            let there = ∥∥₁_map (shown h legal from held (left.clean clean)) (λ fresh. later_from from fresh.0 (file_state last) h h h (inl refl) fresh.1 (left.leaves fresh.2 fresh.0 h legal fresh.3 clean)) in
-            record {
-              now = ∥∥₁_elim there squash₁ (λ all. (on.closes.closed.holds same from h h (λ _. all) honest).now);
-              crash = λ image may. ∥∥₁_elim there squash₁ (λ all. (on.closes.closed.holds same from h h (λ _. all) honest).crash image may);
-            };
-      }
+      unreplayed same failed failure left prints =
+          unreplayed_in m d old on.opened path on.conn on.connected on.opened new last on.errors ends.errors.new on.before ends.status on.closes founding same failed failure left
+          ends refl refl (on.silent, failed, prints)
 
       -- what was replayed is carried into the files, unless closing them failed
       done : ends.status ≡ on.before → (left : Result (Registry (FileStore F d) over_files) (Held (FileStore F d))) → on.left ≡ left

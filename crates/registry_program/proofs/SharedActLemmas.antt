@@ -1,5 +1,5 @@
 -- What the files of a store hold after requests were acted on over a log.
-use Rattle.std.proofs.Common.{◌≡◌, ◌⊎◌, inl, inr, ℕ, List, [], ◌∷◌, Option, Some, None, refl, sym, subst, arith}
+use Rattle.std.proofs.Common.{◌≡◌, ◌⊎◌, inl, inr, ℕ, List, [], ◌∷◌, Option, None, refl, sym, subst, arith}
 use Rattle.std.specs.Prelude.{Result, Ok, Err}
 use Rattle.sqlite_disk.specs.declared.Disk as disk
 use Rattle.sqlite.specs.State.{HasCleanDisk}
@@ -28,9 +28,9 @@ use Rattle.shared_registry.specs.declared.stop.ShareStop.{ShareStop}
 use Rattle.shared_registry.proofs.LineLemmas.{leads_nowhere, leads_on}
 use Rattle.shared_commands.specs.declared.answering.AnswerStop.{AnswerStop}
 use Rattle.shared_commands.specs.declared.answering.AnswerStop.TheVariants as stops
-use Rattle.shared_commands.specs.Answered.{HasAnsweredSome, HasReplied, IsCut}
-use Rattle.shared_commands.specs.Applied.{Did, DidApply, DidNothing, DidRun, EndsRun}
-use Rattle.shared_commands.specs.Imported.{DidImport, DidOne, EndsOne}
+use Rattle.shared_commands.specs.Answered.{HasAnsweredSome, IsCut}
+use Rattle.shared_commands.specs.Applied.{Did, DidApply, DidNothing, EndsRun}
+use Rattle.shared_commands.specs.Imported.{DidImport, EndsOne}
 use Rattle.shared_commands.proofs.AnswerLemmas.{answered_leads}
 use Rattle.registry_program.specs.declared.host.Host as host
 use Rattle.registry_program.specs.declared.logs.Logs as logs

@@ -9,6 +9,7 @@ pub mod Checking
 pub mod Serving
 pub mod Sharing
 pub mod SharedActs
+pub mod SharedReplay
 pub mod Replaying
 pub mod Whole
 pub mod SharedWhole

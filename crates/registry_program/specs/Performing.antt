@@ -18,8 +18,9 @@ use Rattle.registry_program.specs.Checking.{ChecksStore}
 use Rattle.registry_program.specs.Replaying.{ReplaysRecord}
 use Rattle.registry_program.specs.Serving.{Serves, limit_of}
 use Rattle.registry_program.specs.SharedActs.{AppliesShared, ImportsShared}
+use Rattle.registry_program.specs.SharedReplay.{ReplaysShared}
 use Rattle.registry_program.specs.Sharing.{ServesShared, Shares}
-use Rattle.registry_program.specs.SharedWhole.{AppliesSharedWholly, ImportsSharedWholly, ServesSharedWholly, SharesWholly}
+use Rattle.registry_program.specs.SharedWhole.{AppliesSharedWholly, ImportsSharedWholly, ReplaysSharedWholly, ServesSharedWholly, SharesWholly}
 use Rattle.registry_program.specs.Whole.{AppliesWholly, ChecksWholly, ExportsWholly, ForetellsWholly, FoundsWholly, ImportsWholly, PrintsHeadWholly, PrintsRecordWholly, ReplaysWholly, ReportsWholly, ServesWholly}
 
 -- What is asked of the machine, and what is written where, by the command. A trial reads the standard input. So may `apply`,
@@ -38,6 +39,7 @@ Performs m d s c r w i k l (command.CheckFounding founding) old new input input_
 Performs m d s c r w i k l (command.CheckImport path list caller key org vendor) old new input input_new ends =
     TriesImport m d s i input input_new old new path list caller key org vendor ends
 Performs m d s c r w i k l (command.Replay path file) old new input input_new ends = ReplaysRecord m d s i input input_new old new path file ends
+Performs m d s c r w i k l (command.ReplayShared path address) old new input input_new ends = (input_new ≡ input) × ReplaysShared m d k l old new path address ends
 Performs m d s c r w i k l (command.Serve path port count) old new input input_new ends = (input_new ≡ input) × Serves m d c r w old new path port (limit_of count) ends
 Performs m d s c r w i k l (command.ServeShared path port count address) old new input input_new ends =
     (input_new ≡ input) × ServesShared m d c r w k l old new path port (limit_of count) address ends
@@ -64,6 +66,7 @@ IsWhole m d s c r w i k l (command.CheckFounding founding) old new input input_n
 IsWhole m d s c r w i k l (command.CheckImport path list caller key org vendor) old new input input_new ends =
     ForetellsWholly m d s i input input_new old new path list caller key org vendor ends
 IsWhole m d s c r w i k l (command.Replay path file) old new input input_new ends = ReplaysWholly m d s i input old new path file ends
+IsWhole m d s c r w i k l (command.ReplayShared path address) old new input input_new ends = ReplaysSharedWholly m d k l old new path address ends
 IsWhole m d s c r w i k l (command.Serve path port count) old new input input_new ends = ServesWholly m d c r w old new path port (limit_of count) ends
 IsWhole m d s c r w i k l (command.ServeShared path port count address) old new input input_new ends = ServesSharedWholly m d c r w k l old new path port (limit_of count) address ends
 IsWhole m d s c r w i k l (command.Share path address) old new input input_new ends = SharesWholly m d k l old new path address ends

@@ -1,5 +1,5 @@
 -- What the commands that act on requests over a log ask of the machine.
-use Rattle.std.specs.Prelude.{◌≡◌, ◌≢◌, ◌⊎◌, ℕ, List, Option, Result, Ok, Err}
+use Rattle.std.specs.Prelude.{◌≡◌, ◌⊎◌, ℕ, List, Option, Result, Ok, Err}
 use Rattle.sqlite_disk.specs.declared.Disk as disk
 use Rattle.sqlite.specs.Store as store
 use Rattle.byte_streams.specs.declared.streams.Source as source
@@ -13,7 +13,7 @@ use Rattle.registry_commands.specs.declared.messages.Failure.{Failure}
 use Rattle.registry_commands.specs.declared.messages.Failure.TheVariants.{Memory}
 use Rattle.registry_commands.specs.declared.status.ExitStatus.{ExitStatus}
 use Rattle.registry_commands.specs.declared.status.ExitStatus.TheVariants.{Failed}
-use Rattle.registry_commands.specs.Ends.{Ends, Output, Sunk}
+use Rattle.registry_commands.specs.Ends.{Ends, Sunk}
 use Rattle.registry_commands.specs.Failures.{IsOfInput, IsTooLong, Prints, TellsFailedReads}
 use Rattle.registry_commands.specs.Imports.{AsksFor}
 use Rattle.registry_commands.specs.Lines.{requests_in}

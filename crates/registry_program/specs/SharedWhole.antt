@@ -1,18 +1,26 @@
 -- What the files of a store hold after the commands over a log, by the history that the files held before them.
-use Rattle.std.specs.Prelude.{◌≡◌, ◌⊎◌, ℕ, List, Option, None, Result, Ok, Err}
+use Rattle.std.specs.Prelude.{◌≡◌, ◌⊎◌, ℕ, true, List, Option, None, Result, Ok, Err}
 use Rattle.sqlite_disk.specs.declared.Disk as disk
 use Rattle.sqlite_disk.specs.declared.Files.{Files}
+use Rattle.sqlite.specs.Files.{file_state}
+use Rattle.sqlite.specs.WalReads.{AreClean}
 use Rattle.byte_streams.specs.declared.streams.Sink as sink
 use Rattle.byte_streams.specs.declared.streams.Source as source
-use Rattle.registry_rules.specs.History.{History}
+use Rattle.registry_rules.specs.History.{History, founded}
+use Rattle.registry_rules.specs.declared.founding.Founding.{Founding}
 use Rattle.registry_laws.specs.Machines.{HasValidFields, IsOfMachine, LeadsTo}
 use Rattle.registry_rules.specs.declared.rejection.Rejection.{Rejection}
 use Rattle.registry_rules.specs.declared.rejection.Rejection.TheVariants.{Refused, NoMemory}
 use Rattle.registry_commands.specs.declared.arguments.BadArgument.{BadArgument}
 use Rattle.registry_commands.specs.declared.importing.Import.{Import}
+use Rattle.registry_commands.specs.declared.messages.Failure.{Failure}
 use Rattle.registry_commands.specs.declared.messages.Failure.TheVariants.{Memory}
+use Rattle.registry_commands.specs.declared.status.ExitStatus.TheVariants.{Success, Failed}
 use Rattle.registry_commands.specs.Ends.{Ends}
 use Rattle.registry_commands.specs.Imports.{AsksFor}
+use Rattle.registry_tables.specs.Calls.{HasNoMeta}
+use Rattle.registry_tables.specs.Rows.{newest}
+use Rattle.registry_store.specs.Files.{HoldEither}
 use Rattle.registry_desk.specs.declared.server.Connections as connections
 use Rattle.shared_log.specs.Calls.{IsKept, LogLines}
 use Rattle.shared_log.specs.declared.log.Log as log
@@ -25,9 +33,10 @@ use Rattle.registry_program.specs.declared.host.Host as host
 use Rattle.registry_program.specs.declared.logs.Logs as logs
 use Rattle.registry_program.specs.Outputs.{IsFailure, IsRejection, earlier}
 use Rattle.registry_program.specs.SharedActs.{AppliesJoined, FollowsReading, ImportsJoined}
+use Rattle.registry_program.specs.SharedReplay.{HasNoFoundingAt, IsFoundedAt, IsReplayedShared, ReplaysJoined}
 use Rattle.registry_program.specs.Sharing.{IsFollowed, IsServedOver, ServesJoined, ServesOver, SharesInto}
-use Rattle.registry_program.specs.Stores.{IsRunOver}
-use Rattle.registry_program.specs.Whole.{IsCarriedOn, LeadsFilesTo, Stays, UnlessStopped}
+use Rattle.registry_program.specs.Stores.{IsRunOver, IsUnconnected, TheRegistry}
+use Rattle.registry_program.specs.Whole.{IsCarriedOn, IsUnreplayed, IsUsed, LeadsFilesTo, Stays, UnlessStopped}
 
 -- share STORE: the history stays
 abbrev pub SharesWholly : {H F I K : Type 0} → host.Ghosts H F I → disk.Ghosts F → logs.Ghosts H K → log.Ghosts K → H → H → List ℕ → List ℕ → Ends → Type 0
@@ -84,3 +93,43 @@ module _ {H F I R K : Type 0} (m : host.Ghosts H F I) (d : disk.Ghosts F) (s : s
     abbrev pub ImportsSharedWholly : List ℕ → List ℕ → List ℕ → List ℕ → Option (List ℕ) → List ℕ → Ends → Type 0
     ImportsSharedWholly list caller key org vendor address ends =
         (asked : Result Import (Rejection BadArgument)) × AsksFor caller key org vendor asked × ImportsSharedWhollyAs list asked address ends
+
+module _ {H F I K : Type 0} (m : host.Ghosts H F I) (d : disk.Ghosts F) (k : logs.Ghosts H K) (l : log.Ghosts K) (founding : Founding) (address : List ℕ) (old new : H) (path : List ℕ) (ends : Ends) where
+  -- The files hold a history to which this founding leads, and the log begins with its record.
+  abbrev pub AreMadeOver : Files F → Cursor K → Type 0
+  AreMadeOver files left =
+      (lines : K → LogLines) → IsKept l lines → HasValidFields (founded founding) → AreClean d files.log files.db
+      → (x : History) × LeadsTo (founded founding) x × IsOfMachine (lines (log_of left)) x × HoldEither d newest files x x
+
+  -- The log was taken up, and its lines were acted on, over the registry that the store held, or over a new one where it held no tables of
+  -- one. After a fault of the registry that stopped it only `performs` speaks of what is left.
+  pub record IsReplayedWholly : Type 0 where
+    pub on : IsReplayedShared m d k l founding address old new path ends
+    pub it : TheRegistry m d
+    pub after : TheRegistry m d
+    pub left_is : on.left ≡ Ok after
+    pub followed : IsFollowed k l address (ReplaysJoined k l) on.opened on.done it after (earlier ends on.errors on.before)
+    pub holds : fault_in followed.does.end ≡ None → LeadsFilesOver m d l old path on.closes.files followed.does.left
+    pub made : fault_in followed.does.end ≡ None → HasNoMeta (file_state on.conn).now → AreMadeOver on.closes.files followed.does.left
+
+  -- the log was not taken up: the history that the files held stays
+  pub record IsLeftBehind : Type 0 where
+    pub files : Files F
+    pub used : IsUsed m d old new path true files
+    pub holds : (h : History) → LeadsFilesTo m d old path files h h (Stays h)
+
+  -- what was done ended with the status Success, and closing the store then failed
+  abbrev pub EndsReplayedUnclosed : Type 0
+  EndsReplayedUnclosed = (on : IsReplayedShared m d k l founding address old new path ends) × (on.before ≡ Success) × (ends.status ≡ Failed)
+
+  -- the lines of a log that begins with this founding, over the store at a path
+  abbrev pub ReplaysSharedWhollyTo : Type 0
+  ReplaysSharedWhollyTo =
+      ((failure : Failure) × IsUnconnected m d old new path failure × IsFailure failure ends)
+      ⊎ EndsReplayedUnclosed ⊎ IsUnreplayed m d old new path ends ⊎ IsLeftBehind ⊎ IsReplayedWholly
+
+-- replay STORE URL; no store is used if the log has no founding
+abbrev pub ReplaysSharedWholly : {H F I K : Type 0} → host.Ghosts H F I → disk.Ghosts F → logs.Ghosts H K → log.Ghosts K → H → H → List ℕ → List ℕ → Ends → Type 0
+ReplaysSharedWholly {H} m d k l old new path address ends =
+    HasNoFoundingAt k l address old new ends
+    ⊎ ((founding : Founding) × (read : H) × IsFoundedAt k l address old read founding × ReplaysSharedWhollyTo m d k l founding address read new path ends)

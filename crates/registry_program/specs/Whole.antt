@@ -26,7 +26,7 @@ use Rattle.registry_rules.specs.Run.{Legal, after, after_one, reply_to}
 use Rattle.registry_reports.specs.History.{IsListing}
 use Rattle.registry_tables.specs.Rows.{newest}
 use Rattle.registry_wire.specs.Founding.{Founds, Listed, founding_listed}
-use Rattle.registry_store.specs.Files.{FilesHoldEither, HoldEither, IsEither}
+use Rattle.registry_store.specs.Files.{FilesHoldEither, HoldEither}
 use Rattle.registry_commands.specs.declared.arguments.BadArgument.{BadArgument}
 use Rattle.registry_commands.specs.declared.arguments.BadArgument.TheVariants.{Name}
 use Rattle.registry_commands.specs.declared.importing.Import.{Import}

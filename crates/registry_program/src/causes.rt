@@ -58,6 +58,7 @@ fn store_of<'a>(command: Command<&'a str>) -> Option<&'a str> {
         Command::CheckFounding { .. } => None,
         Command::CheckImport { store, .. } => Some(store),
         Command::Replay { store, .. } => Some(store),
+        Command::ReplayShared { store, .. } => Some(store),
         Command::Serve { store, .. } => Some(store),
         Command::ServeShared { store, .. } => Some(store),
         Command::Share { store, .. } => Some(store),
@@ -94,6 +95,7 @@ fn log_of<'a>(command: Command<&'a str>) -> &'a str {
     match command {
         Command::ApplyShared { log, .. }
         | Command::ImportShared { log, .. }
+        | Command::ReplayShared { log, .. }
         | Command::ServeShared { log, .. }
         | Command::Share { log, .. } => log,
         _ => "the log",

@@ -21,17 +21,17 @@
 //!
 //! A store is opened before an input, except that `replay` reads the first line of its record
 //! first, and `found` the whole founding file: without a founding no store is opened or made
-//! (`FoundsIn`). Only `found` and a `replay` of a whole record may make the files of one, and these
-//! are closed last, as `close_store` leaves them (`Closes`). If the database file is empty, the
-//! connection with which these two begin makes pages with checksums (`HasSumsIfNew`); only tests
+//! (`FoundsIn`). Only `found` and a `replay` of a whole record or of a log may make the files of one,
+//! and these are closed last, as `close_store` leaves them (`Closes`). If the database file is empty,
+//! the connection with which these two begin makes pages with checksums (`HasSumsIfNew`); only tests
 //! show that the closed file has them. A server listens on the port that was given, before it takes
 //! a connection (`ServesOn`); only tests show the line that says so.
 //!
 //! A command on a store begins with a registry that is not poisoned, and has not met the rows of no
 //! history (`IsNew`, in `OpensFiles` and `IsFoundOrOpen`). Its opening commits nothing unless the
 //! tables have the names of an older schema, and succeeds only if they have those of a schema, if
-//! the disks returned what was written (`untouched`, `known`). A `replay` of a whole record may
-//! also found a registry, in a database without tables (`IsFoundOrOpen`).
+//! the disks returned what was written (`untouched`, `known`). A `replay` of a whole record or of
+//! a log may also found a registry, in a database without tables (`IsFoundOrOpen`).
 //!
 //! The check of a founding opens the founding file, and nothing else (`ChecksFounding`). The dry
 //! run of an import opens what an import opens (`TriesImport`).
@@ -47,12 +47,15 @@
 //! # Over a log
 //!
 //! With a log (`Logs`) `share`, `serve`, `apply` and `import` ask for the one at their address once the
-//! store is open. `share` puts the record into it (`SharesInto`). The others take it up before they
+//! store is open. `share` puts the record into it (`SharesInto`). `replay` reads the founding in the first
+//! line of a log before it opens the store, which it founds if there is none (`ReplaysShared`), and then
+//! takes the log up and acts on its lines (`ReplaysJoined`). The others take it up before they
 //! listen or open an input, and end if the registry does not go on with it (`FollowsAt`); what they
 //! then do is said by `ServesJoined`, `AppliesJoined` and `ImportsJoined`. A log with which the registry
 //! does not go on is left, with the reason, which only a cause names beyond `fault: log` (`TellsStop`).
 //! Over a log that keeps its lines the files then hold a history to which the one before leads, and the
-//! log begins with its record (`LeadsFilesOver`), unless a fault of the registry ended the command.
+//! log begins with its record (`LeadsFilesOver`), unless a fault of the registry ended the command. So do the
+//! files that `replay` made, with a history to which that founding leads (`AreMadeOver`).
 //!
 //! # The line with a cause
 //!
@@ -125,6 +128,7 @@ mod replaying;
 mod running;
 mod serving;
 mod shared_acts;
+mod shared_replay;
 mod sharing;
 mod showing;
 mod stores;
@@ -144,6 +148,7 @@ pub use replaying::run_replay;
 pub use running::{Terminals, run_over};
 pub use serving::run_serve;
 pub use shared_acts::{run_apply_shared, run_import_shared};
+pub use shared_replay::run_replay_shared;
 pub use sharing::{run_serve_shared, run_share};
 pub use showing::{run_export, run_head, run_history, run_lookup, run_report};
 pub use stores::{close_connection, close_registry, connect, open_registry};

@@ -20,6 +20,7 @@ use crate::logs::Logs;
 use crate::replaying::run_replay;
 use crate::serving::run_serve;
 use crate::shared_acts::{run_apply_shared, run_import_shared};
+use crate::shared_replay::run_replay_shared;
 use crate::sharing::{run_serve_shared, run_share};
 use crate::showing::{run_export, run_head, run_history, run_lookup, run_report};
 use byte_streams::{Sink, Source};
@@ -103,6 +104,7 @@ fn act_by<H: Host + Connections + Logs, R: Source, W: Sink, E: Sink>(
         Command::Replay { store, record } => {
             run_replay(alloc, host, store, record, input, errors)
         }
+        Command::ReplayShared { store, log } => run_replay_shared(alloc, host, store, log, errors),
         Command::Serve { store, port, count } => {
             run_serve(alloc, host, store, port, count, errors)
         }

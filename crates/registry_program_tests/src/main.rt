@@ -147,6 +147,10 @@ fn text_of(alloc: Global, room: &mut Room<'_>, line: &str) -> Result<String, Row
     match kind {
         "stands" => making(alloc, rest),
         "piped" => run_piped(alloc, room, rest),
+        "lost" => {
+            room.store = None;
+            Ok(String::from_str(alloc, line)?)
+        }
         _ => {
             let is_terminal = kind == "terminals";
             let terminals = Terminals {

@@ -174,7 +174,7 @@ fn log_of(alloc: Global, lines: &[u8]) -> MemoryLog {
     log
 }
 
-// The log at the name of a file has its lines.
+// The log at the name of a file, or at the URL of that name in the room, has its lines.
 impl Logs for Room<'_> {
     type Log = MemoryLog;
 
@@ -185,9 +185,10 @@ impl Logs for Room<'_> {
     ghost leaves = { λ _ _ _ _. ⊤ };
 
     fn log_at(&mut self, address: &str) -> Result<MemoryLog, NoLog> {
+        let name = address.strip_prefix("http://room/").unwrap_or(address);
         let inputs = self.inputs;
         for input in inputs {
-            if input.name.as_str() == address {
+            if input.name.as_str() == name {
                 self.note("log ");
                 return Ok(log_of(self.alloc, input.bytes.as_slice()));
             }

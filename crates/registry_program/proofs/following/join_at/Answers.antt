@@ -1,5 +1,4 @@
 use Rattle.std.proofs.Common.{inl, inr, refl}
-use Rattle.std.specs.Prelude.{Ok, Err}
 use Rattle.registry_program.proofs.following.join_at.Goals as goal
 
 pub returns-in-Ok-join-clause-ok : goal.returns-in-Ok-join-clause-ok

@@ -55,3 +55,6 @@ returns-in-ApplyShared g c = rw c.in-ApplyShared.is c.run_apply_shared.ensures
 
 pub returns-in-ImportShared : goal.returns-in-ImportShared
 returns-in-ImportShared g c = rw c.in-ImportShared.is (c.import_of_arguments-asked-in-ImportShared.result, c.import_of_arguments-asked-in-ImportShared.ensures, c.run_import_shared.ensures)
+
+pub returns-in-ReplayShared : goal.returns-in-ReplayShared
+returns-in-ReplayShared g c = rw c.in-ReplayShared.is (refl, c.run_replay_shared.ensures (sunk g.W.Sink c.args.output.now))

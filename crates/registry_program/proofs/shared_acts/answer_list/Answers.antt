@@ -1,4 +1,4 @@
-use Rattle.std.proofs.Common.{◌≡◌, codes, true, false, inl, inr, refl, rules}
+use Rattle.std.proofs.Common.{◌≡◌, codes, false, inl, inr, refl, rules}
 use Rattle.std.specs.Str.{bytes_eq}
 use Rattle.registry_program.proofs.shared_acts.answer_list.Goals as goal
 
