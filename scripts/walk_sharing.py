@@ -5,8 +5,9 @@ for the names and addresses of each machine: three machines from nothing, with e
 Each machine takes orders. While a server is down, or its etcd, its nginx passes queries and orders on to another machine, once, and
 only to one that has the certificate of the registry. Nobody but root, the service and etcd reaches the log.
 
-Then, while two clients send orders under keys, a machine is lost and its disk thrown away; a new one takes its place. Later two of
-three are lost, the third goes on alone, and two new ones come. Each time all machines have the same record in the end, by their
+A store is deleted, and its service makes it from the log. Then, while two clients send orders under keys, a machine is lost and its
+disk thrown away; a new one takes its place. Later two of three are lost, the third goes on alone, and two new ones come; and all are
+lost, and new ones begin from a copy of the record. Each time all machines have the same record in the end, by their
 stores too; it has each order that was accepted, with its reply, and grants no number twice. In the end one machine goes on without
 the log.
 
@@ -49,8 +50,8 @@ def authority(machine, room):
         machine.take(f"/root/{it}", f"{room}/{it}")
 
 
-def from_nothing(machines, room, package):
-    """Walks the page down to the list. Returns the password of the curator, and whether there is a firewall."""
+def from_nothing(machines, room, package, record=None):
+    """Walks the page down to the list, or from a copy of the record. Returns the password of the curator, and whether there is a firewall."""
     one, two, three = machines
     for first, second in ((one, two), (one, three), (two, three)):
         join(first, second)
@@ -61,9 +62,7 @@ def from_nothing(machines, room, package):
     same("the health of etcd", ["is healthy" in it for it in at_once([lambda it=it: it.step("etcd", 1) for it in machines])], [True] * 3)
     for it in machines:
         it.step("The store and the log")
-    one.found()
-    for it in (two, three):
-        it.fill()
+    one.begin(record)
     at_once([it.serve for it in machines])
     password = re.search(rf"^{NAME} (\S+)$", one.step("The proxies"), re.MULTILINE)[1]
     one.take("/etc/nginx/usbreg.users", f"{room}/usbreg.users")
@@ -171,7 +170,6 @@ def begin_anew(stack, room, name, package, others, add):
         machine.must_run(f"sed -i 's|^ETCD_INITIAL_CLUSTER=.*|{members}|' /etc/default/etcd")
     same("the health of etcd", "is healthy" in machine.step("etcd", 1), True)
     machine.step("The store and the log")
-    machine.fill()
     machine.serve()
     machine.users()
     machine.front()
@@ -234,6 +232,21 @@ def two_are_lost(stack, machines, room, package, password, accepted):
     return all_of_them
 
 
+def all_are_lost(stack, machines, room, package):
+    """Loses all machines, and begins anew from a copy of the record. Returns new ones, and the password of the curator."""
+    with open(f"{room}/record.jsonl", "w", encoding="utf-8") as out:
+        out.write(machines[0].record())
+    lose(*machines)
+    new = at_once([lambda it=it: stack.enter_context(Sharer(room, it)) for it in ADDRESSES])
+    return new, from_nothing(new, room, package, f"{room}/record.jsonl")[0]
+
+
+def store_is_gone(machine):
+    """Deletes the store of a machine. Its service makes it from the log."""
+    machine.must_run("systemctl stop usbreg; rm /var/lib/usbreg/numbers.db*; systemctl start usbreg")
+    same("the store that was made", machine.must_run("ls /var/lib/usbreg"), "numbers.db\nnumbers.db-wal\n")
+
+
 def back_to_one(machines, password, accepted):
     """Lets one machine go on without the log."""
     heads = [json.loads(it.step("Back to one machine"))["requests"] for it in machines]
@@ -261,12 +274,15 @@ def main():
         password, has_rules = from_nothing(machines, room, package)
         orders_on_each(machines, password, accepted)
         passed_on(machines, password, accepted)
+        store_is_gone(machines[2])
         machines, again = one_is_lost(stack, machines, room, package, password, accepted)
         same_record(machines, accepted)
         machines = two_are_lost(stack, machines, room, package, password, accepted)
+        same_record(machines, accepted)
+        machines, password = all_are_lost(stack, machines, room, package)
         requests, granted = same_record(machines, accepted)
         back_to_one(machines, password, accepted)
-    print(f"docs/sharing.md was walked on three machines, two of which were lost; {len(accepted)} orders were accepted, {again} times one was sent again; "
+    print(f"docs/sharing.md was walked on three machines, all of which were lost in the end; {len(accepted)} orders were accepted, {again} times one was sent again; "
           f"{requests} requests, {granted} numbers{'' if has_rules else '; this machine knows no rules of a firewall'}")
 
 

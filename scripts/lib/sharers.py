@@ -59,17 +59,17 @@ class Sharer(Booted):
         self.step("Certificates", 1)
         self.step("etcd")
 
-    def found(self):
-        """Founds the registry, and puts its record into the log."""
-        self.step("The store and the log", 1)
+    def begin(self, record):
+        """Founds the registry, or makes it from a copy of its record, and puts the record into the log."""
+        if record:
+            self.put(record, "/root/record.jsonl")
+            self.step("All are lost")
+        else:
+            self.step("The store and the log", 1)
         same("what sharing says", self.step("The store and the log", 2), "")
 
-    def fill(self):
-        """Makes the store from the log."""
-        same(f"{self.name}: what replaying the log says", self.step("The store and the log", 3), "")
-
     def serve(self):
-        same(f"{self.name}: what the service says", re.findall("serves [0-9]+ requests", self.step("The store and the log", 4))[:1] != [], True)
+        same(f"{self.name}: what the service says", re.findall("serves [0-9]+ requests", self.step("The store and the log", 3))[:1] != [], True)
 
     def front(self):
         """Sets up nginx."""
