@@ -21,7 +21,7 @@ use Rattle.registry_desk.specs.Server.{HaveVisited, Visit}
 use Rattle.shared_log.specs.Calls.{IsKept, LogLines}
 use Rattle.shared_log.specs.declared.fault.LogFault.TheVariants as log_faults
 use Rattle.shared_log.specs.declared.log.Log as log
-use Rattle.shared_registry.specs.Asks.{AppendsNothing, AppendsRecord, IsAskedFor}
+use Rattle.shared_registry.specs.Asks.{AppendsNothing, AppendsRecord, IsAsked, IsAskedFor}
 use Rattle.shared_registry.specs.Cursors.{log_of}
 use Rattle.shared_registry.specs.Follows.{Follows}
 use Rattle.shared_registry.specs.Lines.{fault_in}
@@ -29,6 +29,7 @@ use Rattle.shared_registry.specs.Records.{IsUnshared, stop_in}
 use Rattle.shared_registry.specs.declared.cursor.Cursor.{Cursor}
 use Rattle.shared_registry.specs.declared.stop.ShareStop.{ShareStop}
 use Rattle.shared_registry.specs.declared.stop.ShareStop.TheVariants as stops
+use Rattle.shared_desk.specs.Asks.{AppendsOrdersIn}
 use Rattle.shared_desk.specs.Refusals.{fault_behind}
 use Rattle.shared_desk.specs.Server as desk
 use Rattle.shared_desk.specs.declared.server.SharedStop.{SharedStop}
@@ -153,6 +154,7 @@ module _ {H F I R W K : Type 0} (m : host.Ghosts H F I) (c : connections.Ghosts 
         × desk.IsToldLast visits (desk.stop_in end)
         × ((lines : K → LogLines) → IsKept l lines → (h : History) → Follows l lines it cursor h → HasCleanDisk (state_of after) → desk.EndsOver l lines cursor after cursor_new h visits (desk.stop_in end))
         × (is_poisoned it ≡ true → All desk.IsTurnedAwayAt visits × (after ≡ it) × (cursor_new ≡ cursor))
+        × ((lines : K → LogLines) → IsKept l lines → (h : History) → Follows l lines it cursor h → HasCleanDisk (state_of after) → IsAsked l (AppendsOrdersIn visits) cursor.log cursor_new.log)
     pub notes : NotesForeign it after (fault_behind (desk.stop_in end))
     pub endures : Endures (state_of it) (state_of after)
 

@@ -1,26 +1,17 @@
 -- A query or an order over a log: the texts that stay cached, and what is left.
-use Rattle.std.proofs.Common.{◌≡◌, ◌≤◌, ◌∙◌, ◌+◌, ◌⊎◌, ℕ, List, [], ◌∷◌, ◌++◌, length, Bool, true, false, Option, None, inl, inr, refl, sym, ap, subst, arith}
-use Rattle.std.specs.Prelude.{Result, Ok, Err, nat_eq, if◌then◌else◌}
-use Rattle.std.proofs.lemmas.Bool.{eqb-false, eqb-true}
-use Rattle.std.proofs.lemmas.List.{length-append}
+use Rattle.std.proofs.Common.{◌≡◌, ◌∙◌, ℕ, [], ◌∷◌, length, Bool, true, false, None, inl, inr, refl, ap, arith}
+use Rattle.std.specs.Prelude.{Ok, Err, nat_eq, if◌then◌else◌}
+use Rattle.std.proofs.lemmas.Bool.{eqb-true}
 use Rattle.sqlite.specs.Store.{Ghosts}
-use Rattle.registry_rules.specs.Accepted.{accepted_by}
 use Rattle.registry_rules.specs.History.{History}
-use Rattle.registry_rules.specs.Run.{after, after_one, after_verdict}
+use Rattle.registry_rules.specs.Run.{after_one}
 use Rattle.registry_rules.specs.Verdict.{verdict}
 use Rattle.registry_rules.specs.declared.order.Request.{Request}
 use Rattle.registry_rules.specs.declared.verdict.Reply.{Reply}
-use Rattle.registry_rules.specs.declared.verdict.Verdict.{Verdict}
-use Rattle.registry_rules.specs.declared.verdict.Verdict.TheVariants.{Kept, Refused, New}
-use Rattle.registry_wire.specs.Record.{accepted_line}
 use Rattle.registry_laws.specs.Machines.{LeadsTo}
 use Rattle.registry_laws.specs.Records.{record_of}
-use Rattle.registry_laws.proofs.MachineLemmas.{record_with}
-use Rattle.registry_store.specs.declared.fault.Fault.{Fault}
-use Rattle.registry_store.specs.declared.fault.Fault.TheVariants as faults
 use Rattle.registry_store.specs.declared.registry.Registry.{Registry}
 use Rattle.registry_store.specs.Queries.{IsUntouched}
-use Rattle.registry_http.specs.declared.message.Message.{Message}
 use Rattle.registry_http.specs.declared.message.Message.TheVariants as messages
 use Rattle.registry_http.specs.declared.refusal.HttpRefusal.{HttpRefusal}
 use Rattle.registry_http.specs.declared.response.Response.{Response}
@@ -28,7 +19,6 @@ use Rattle.registry_http.specs.declared.route.Query.{Query}
 use Rattle.registry_http.specs.Responses.{refusal_response, reply_response}
 use Rattle.registry_desk.specs.declared.cache.Cache.{Cache}
 use Rattle.registry_desk.specs.declared.fault.DeskFault.{DeskFault}
-use Rattle.registry_desk.specs.declared.fault.DeskFault.TheVariants as desk
 use Rattle.registry_desk.specs.Acting.{IsOfQuery, IsQueryResponse}
 use Rattle.registry_desk.specs.Cache.{AreTextsOf, no_texts, with_text}
 use Rattle.registry_desk.proofs.CacheLemmas.{none_are}
@@ -36,7 +26,6 @@ use Rattle.shared_log.specs.Calls.{LogLines}
 use Rattle.shared_log.specs.declared.log.Log.{Ghosts as LogGhosts}
 use Rattle.shared_registry.specs.Follows.{Follows, HasFollowed, IsAnswered, IsLeft}
 use Rattle.shared_registry.specs.declared.cursor.Cursor.{Cursor}
-use Rattle.shared_registry.specs.declared.stop.ShareStop.{ShareStop}
 use Rattle.shared_registry.specs.declared.stop.ShareStop.TheVariants as stops
 use Rattle.shared_registry.proofs.ActLemmas.{longer_by, unmoved}
 use Rattle.shared_registry.proofs.FollowLemmas.{grows_none, still_follows}

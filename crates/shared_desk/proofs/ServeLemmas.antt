@@ -1,6 +1,6 @@
 -- Serving one message over a log.
-use Rattle.std.proofs.Common.{◌≡◌, ◌⊎◌, ◌∙◌, ℕ, List, [], ◌∷◌, Option, None, Some, true, inl, inr, refl, sym, ap, subst}
-use Rattle.std.specs.Prelude.{Result, Ok, Err, IfErr, IfOk, OnOk, IsOk}
+use Rattle.std.proofs.Common.{◌≡◌, ◌∙◌, ℕ, List, [], ◌∷◌, Option, inl, inr, refl, sym, ap, subst}
+use Rattle.std.specs.Prelude.{Result, Ok, Err, IfErr, IfOk, OnOk}
 use Rattle.sqlite.specs.Store.{Ghosts}
 use Rattle.registry_rules.specs.History.{History}
 use Rattle.registry_rules.specs.Run.{after, after_one, after_verdict}
@@ -10,7 +10,6 @@ use Rattle.registry_rules.specs.declared.order.Request.{Request}
 use Rattle.registry_rules.specs.declared.verdict.Verdict.{Verdict}
 use Rattle.registry_rules.specs.declared.verdict.Verdict.TheVariants.{Kept, Refused, New}
 use Rattle.registry_laws.specs.Machines.{LeadsTo}
-use Rattle.registry_store.specs.declared.fault.Fault.{Fault}
 use Rattle.registry_store.specs.declared.fault.Fault.TheVariants as faults
 use Rattle.registry_store.specs.declared.registry.Registry.{Registry}
 use Rattle.registry_http.specs.declared.message.Message.{Message}
@@ -20,7 +19,7 @@ use Rattle.registry_http.specs.declared.response.Response.{Response}
 use Rattle.registry_http.specs.Messages.{Says}
 use Rattle.registry_http.specs.Responses.{IsInPlaceOf, refusal_response}
 use Rattle.registry_desk.specs.declared.cache.Cache.{Cache}
-use Rattle.registry_desk.specs.Acting.{IsResponse, after_message}
+use Rattle.registry_desk.specs.Acting.{after_message}
 use Rattle.registry_desk.specs.Cache.{AreTextsOf, cache_after}
 use Rattle.registry_desk.proofs.CacheLemmas.{texts_after}
 use Rattle.shared_log.specs.Calls.{LogLines}
@@ -29,10 +28,10 @@ use Rattle.shared_registry.specs.Lines.{fault_in}
 use Rattle.shared_registry.specs.declared.cursor.Cursor.{Cursor}
 use Rattle.shared_registry.specs.declared.stop.ShareStop.{ShareStop}
 use Rattle.shared_registry.specs.declared.stop.ShareStop.TheVariants as stops
-use Rattle.shared_registry.proofs.LineLemmas.{leads_nowhere, leads_on}
+use Rattle.shared_registry.proofs.LineLemmas.{leads_nowhere}
 use Rattle.shared_desk.specs.Answers.{Answers, IsUnanswered}
 use Rattle.shared_desk.specs.Refusals.{fault_behind}
-use Rattle.shared_desk.specs.Serving.{IsRefusedAlone, IsServedBeside, IsTold, IsToldBy, IsTurnedAway, IsUnserved, done_for_cache}
+use Rattle.shared_desk.specs.Serving.{IsServedBeside, IsTold, IsToldBy, IsTurnedAway, IsUnserved, done_for_cache}
 
 -- ---- histories
 

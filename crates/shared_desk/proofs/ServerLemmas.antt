@@ -1,5 +1,5 @@
 -- Serving one connection after another over a log.
-use Rattle.std.proofs.Common.{◌≡◌, ◌⊎◌, ◌∙◌, ℕ, ◌+◌, ◌<◌, ◌≤◌, List, [], ◌∷◌, ◌++◌, length, Bool, true, false, Option, None, Some, inl, inr, refl, sym, ap, subst, arith}
+use Rattle.std.proofs.Common.{append_assoc, ◌≡◌, ◌⊎◌, ◌∙◌, ℕ, ◌<◌, ◌≤◌, List, [], ◌∷◌, ◌++◌, length, Bool, true, false, Option, None, Some, inl, inr, refl, sym, ap, subst, arith}
 use Rattle.std.specs.Prelude.{All, Result, Ok, Err, OnOk, OnErr, IfOk, if◌then◌else◌}
 use Rattle.std.proofs.lemmas.List.Elements.{All-append, All-cons, All-nil}
 use Rattle.sqlite.specs.Store.{Ghosts}
@@ -7,7 +7,7 @@ use Rattle.sqlite.specs.State.{HasCleanDisk}
 use Rattle.byte_streams.specs.declared.streams.Broken.{Broken}
 use Rattle.byte_streams.specs.Streams.{MayGive}
 use Rattle.registry_rules.specs.History.{History}
-use Rattle.registry_laws.specs.Machines.{IsOfMachine, LeadsTo}
+use Rattle.registry_laws.specs.Machines.{IsOfMachine}
 use Rattle.registry_store.specs.declared.fault.Fault.TheVariants as faults
 use Rattle.registry_store.specs.declared.registry.Registry.{Registry}
 use Rattle.registry_store.specs.Promise.{is_poisoned, state_of}
@@ -26,17 +26,20 @@ use Rattle.registry_desk.proofs.ServerLemmas.{length_more, visited_more}
 use Rattle.shared_log.specs.Calls.{IsKept, LogLines}
 use Rattle.shared_log.specs.declared.fault.LogFault.{LogFault}
 use Rattle.shared_log.specs.declared.log.Log.{Ghosts as LogGhosts}
+use Rattle.shared_registry.specs.Asks.{IsAsked}
 use Rattle.shared_registry.specs.Follows.{Follows, FollowsLater, HasFailed}
 use Rattle.shared_registry.specs.declared.cursor.Cursor.{Cursor}
 use Rattle.shared_registry.specs.declared.stop.ShareStop.{ShareStop}
 use Rattle.shared_registry.specs.declared.stop.ShareStop.TheVariants as stops
-use Rattle.shared_registry.proofs.LineLemmas.{leads_nowhere, leads_on}
+use Rattle.shared_registry.proofs.AskLemmas.{asked_nothing, asked_then, asked_weaker}
+use Rattle.shared_registry.proofs.LineLemmas.{leads_on}
 use Rattle.shared_desk.specs.declared.serve.Turn.{Turn}
 use Rattle.shared_desk.specs.declared.server.SharedStop.{SharedStop}
 use Rattle.shared_desk.specs.declared.server.SharedStop.TheVariants as ends
+use Rattle.shared_desk.specs.Asks.{AppendsOrderIn, AppendsOrdersIn}
 use Rattle.shared_desk.specs.Refusals.{fault_behind, may_pass, unavailable_for}
 use Rattle.shared_desk.specs.Serving.{IsAnsweredBeside, IsServedBeside, IsToldBy, IsTurnedAway, IsUnserved}
-use Rattle.shared_desk.specs.Server.{EndsBeside, EndsConnections, EndsOver, IfVisited, IsPassedOver, IsRespondedOver, IsStoppedOver, IsStopTold, IsToldAt, IsToldLast, IsTurnedAwayAt, IsTurnOver, TurnsOver, ends_by, served_in, stop_in, stop_to_end}
+use Rattle.shared_desk.specs.Server.{EndsBeside, EndsConnections, EndsOver, IfVisited, IsStopTold, IsToldAt, IsToldLast, IsTurnedAwayAt, IsTurnOver, TurnsOver, ends_by, served_in, stop_in, stop_to_end}
 use Rattle.shared_desk.proofs.ServeLemmas.{leads_by_message}
 
 abbrev served_as : List ℕ → Response → Served → Visit
@@ -131,6 +134,7 @@ module _ {S C R W : Type 0} {g : Ghosts S} {L : Type 0} (l : LogGhosts L) (opens
       × IsToldAt visit stop
       × ((lines : L → LogLines) → IsKept l lines → (h : History) → Follows l lines it c h → HasCleanDisk (state_of last) → AreTextsOf h cache → EndsBeside l lines c last c_new h visit cache_new stop)
       × (is_poisoned it ≡ true → IsTurnedAwayAt visit × (last ≡ it) × (c_new ≡ c))
+      × ((lines : L → LogLines) → IsKept l lines → (h : History) → Follows l lines it c h → HasCleanDisk (state_of last) → IsAsked l (AppendsOrderIn visit.bytes) c.log c_new.log)
 
   -- a message was served between the opening and the closing of a connection
   pub visit_of : (old opened new : C) (reader reader_new : R) (writer writer_new : W) (it last : Registry S g) (c c_new : Cursor L) (cache cache_new : Cache) (turn : Result Turn Broken) (status : Option ℕ) (stop : Option ShareStop) (bytes : List ℕ)
@@ -139,7 +143,8 @@ module _ {S C R W : Type 0} {g : Ghosts S} {L : Type 0} (l : LogGhosts L) (opens
       × (turn.served.fault ≡ fault_behind turn.stop)
       × IsToldBy turn.stop response
       × ((lines : L → LogLines) → IsKept l lines → (h : History) → Follows l lines it c h → HasCleanDisk (state_of last) → AreTextsOf h cache → IsServedBeside l lines c last c_new h bytes response cache_new turn.stop)
-      × (is_poisoned it ≡ true → IsTurnedAway bytes response turn.stop × (last ≡ it) × (c_new ≡ c)))
+      × (is_poisoned it ≡ true → IsTurnedAway bytes response turn.stop × (last ≡ it) × (c_new ≡ c))
+      × ((lines : L → LogLines) → IsKept l lines → (h : History) → Follows l lines it c h → HasCleanDisk (state_of last) → IsAsked l (AppendsOrderIn bytes) c.log c_new.log))
       → OnErr turn (FailsAfter (remaining reader) (remaining reader_new) (reads_failed reader) (reads_failed reader_new) IsIncomplete × (writer_new ≡ writer) × (last ≡ it) × (c_new ≡ c) × (cache_new ≡ cache))
       → OnOk turn (reads_failed reader_new ≡ reads_failed reader)
       → Came old new it last c c_new cache cache_new stop
@@ -150,6 +155,7 @@ module _ {S C R W : Type 0} {g : Ghosts S} {L : Type 0} (l : LogGhosts L) (opens
         told_at bytes said.0 turn.served turn.stop said.1.1 said.3,
         λ lines kept h follows clean of. served_visit l lines c last c_new h bytes said.0 turn.served cache_new turn.stop said.1.1 said.3 (said.4 lines kept h follows clean of),
         λ poisoned. let away = said.5 poisoned in (turned_at bytes said.0 turn.served turn.stop said.1.1 said.3 away.0, away.1, away.2),
+        said.6,
       )
   visit_of old opened new reader reader_new writer writer_new it last c c_new cache cache_new (Err broken) status stop bytes opens_with closes_with status_is stop_is gives said failed came =
       rw stop_is (
@@ -159,6 +165,7 @@ module _ {S C R W : Type 0} {g : Ghosts S} {L : Type 0} (l : LogGhosts L) (opens
         λ lines kept h follows clean of.
             (h, (refl, failed.3), rw failed.2 (rw failed.3 follows), rw failed.4 of),
         λ poisoned. (tt, failed.2, failed.3),
+        λ lines kept h follows clean. subst (λ (d : Cursor L). IsAsked l (AppendsOrderIn bytes) c.log d.log) (sym failed.3) (asked_nothing l (AppendsOrderIn bytes) c.log),
       )
 
 -- ---- one connection after another
@@ -189,6 +196,14 @@ module _ {S : Type 0} {g : Ghosts S} {L : Type 0} (l : LogGhosts L) (lines : L �
 pub all_more : (P : Visit → Type 0) (visits : List Visit) (visit : Visit) → All P visits → P visit → All P (visits ++ visit ∷ [])
 all_more P visits visit all one = All-append P visits (visit ∷ []) all (All-cons P visit [] one (All-nil P))
 
+-- orders of these connections, and then that of one more
+pub asked_more : {L : Type 0} (l : LogGhosts L) (visits : List Visit) (visit : Visit) (a b c : L) → IsAsked l (AppendsOrdersIn visits) a b → IsAsked l (AppendsOrderIn visit.bytes) b c → IsAsked l (AppendsOrdersIn (visits ++ visit ∷ [])) a c
+asked_more l visits visit a b c so_far one =
+    let May = AppendsOrdersIn (visits ++ visit ∷ []) in
+    asked_then l May a b c
+    (asked_weaker l (AppendsOrdersIn visits) May (λ n line it. (it.0, it.1, it.2 ++ visit ∷ [], ap (λ (all : List Visit). all ++ visit ∷ []) it.3 ∙ append_assoc it.0 (it.1 ∷ it.2) (visit ∷ []), it.4)) a b so_far)
+    (asked_weaker l (AppendsOrderIn visit.bytes) May (λ n line it. (visits, visit, [], refl, it)) b c one)
+
 module _ {S C R W : Type 0} {g : Ghosts S} {L : Type 0} (l : LogGhosts L) (opens : C → C → R → W → Type 0) (closes : C → C → R → W → Option ℕ → Type 0) (remaining : R → Option (List ℕ)) (reads_failed : R → ℕ) (contents : W → Option (List ℕ)) (writes_failed : W → ℕ) (fails : C → C → Type 0) where
   abbrev Ends : C → C → Registry S g → Registry S g → Cursor L → Cursor L → ℕ → Result (Unit {0}) SharedStop → Type 0
   Ends old new first last c c_new count result = (visits : List Visit) × (middle : C)
@@ -198,6 +213,7 @@ module _ {S C R W : Type 0} {g : Ghosts S} {L : Type 0} (l : LogGhosts L) (opens
       × IsToldLast visits (stop_in result)
       × ((lines : L → LogLines) → IsKept l lines → (h : History) → Follows l lines first c h → HasCleanDisk (state_of last) → EndsOver l lines c last c_new h visits (stop_in result))
       × (is_poisoned first ≡ true → All IsTurnedAwayAt visits × (last ≡ first) × (c_new ≡ c))
+      × ((lines : L → LogLines) → IsKept l lines → (h : History) → Follows l lines first c h → HasCleanDisk (state_of last) → IsAsked l (AppendsOrdersIn visits) c.log c_new.log)
 
   -- a server ends when no more connections come, or at a stop
   pub ended_by : (old middle new : C) (first mid last : Registry S g) (c c_mid c_new : Cursor L) (cache cache_new : Cache) (count : ℕ) (visits : List Visit) (stop : SharedStop)
@@ -205,9 +221,10 @@ module _ {S C R W : Type 0} {g : Ghosts S} {L : Type 0} (l : LogGhosts L) (opens
       → (HasCleanDisk (state_of last) → HasCleanDisk (state_of mid))
       → ((lines : L → LogLines) → IsKept l lines → (h : History) → Follows l lines first c h → HasCleanDisk (state_of mid) → FollowsBeside l lines c h mid c_mid cache visits)
       → (is_poisoned first ≡ true → All IsTurnedAwayAt visits × (mid ≡ first) × (c_mid ≡ c))
+      → ((lines : L → LogLines) → IsKept l lines → (h : History) → Follows l lines first c h → HasCleanDisk (state_of mid) → IsAsked l (AppendsOrdersIn visits) c.log c_mid.log)
       → IfVisited (Err stop) (Came l opens closes remaining reads_failed contents writes_failed middle new mid last c_mid c_new cache cache_new (stop_in (Err stop)))
       → (stop ≡ ends.Connections → fails middle new × (last ≡ mid) × (c_new ≡ c_mid)) → Ends old new first last c c_new count (Err stop)
-  ended_by old middle new first mid last c c_mid c_new cache cache_new count visits ends.Connections before less early so_far turned came none =
+  ended_by old middle new first mid last c c_mid c_new cache cache_new count visits ends.Connections before less early so_far turned asked came none =
       let ended = none refl in (
         visits,
         middle,
@@ -218,8 +235,9 @@ module _ {S C R W : Type 0} {g : Ghosts S} {L : Type 0} (l : LogGhosts L) (opens
         tt,
         λ lines kept h follows clean. rw (ended.1, ended.2) (ends_after l lines c h mid c_mid cache visits (so_far lines kept h follows (early clean))),
         λ poisoned. let away = turned poisoned in (away.0, ended.1 ∙ away.1, ended.2 ∙ away.2),
+        λ lines kept h follows clean. subst (λ (d : Cursor L). IsAsked l (AppendsOrdersIn visits) c.log d.log) (sym ended.2) (asked lines kept h follows (early clean)),
       )
-  ended_by old middle new first mid last c c_mid c_new cache cache_new count visits (ends.Share stop) before less early so_far turned came none =
+  ended_by old middle new first mid last c c_mid c_new cache cache_new count visits (ends.Share stop) before less early so_far turned asked came none =
       let longer = length_more visits came.0 (length visits) refl in (
         visits ++ came.0 ∷ [],
         new,
@@ -235,4 +253,7 @@ module _ {S C R W : Type 0} {g : Ghosts S} {L : Type 0} (l : LogGhosts L) (opens
             let away = turned poisoned in
             let one = came.4 (subst (λ (r : Registry S g). is_poisoned r ≡ true) (sym away.1) poisoned) in
             (all_more IsTurnedAwayAt visits came.0 away.0 one.0, one.1 ∙ away.1, one.2 ∙ away.2),
+        λ lines kept h follows clean.
+            let before = so_far lines kept h follows (early clean) in
+            asked_more l visits came.0 c.log c_mid.log c_new.log (asked lines kept h follows (early clean)) (came.5 lines kept before.0 before.2 clean),
       )

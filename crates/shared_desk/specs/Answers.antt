@@ -2,7 +2,7 @@
 --
 -- `lines` is what the log keeps. `c` and `c_new` are the places in it before the message and after it, and h is the history that
 -- the registry followed the log with.
-use Rattle.std.specs.Prelude.{◌≡◌, ◌⊎◌, Result, Ok, Err, IsOk}
+use Rattle.std.specs.Prelude.{◌≡◌, ◌⊎◌, Result, Ok, IsOk}
 use Rattle.sqlite.specs.Store.{Ghosts}
 use Rattle.registry_rules.specs.History.{History}
 use Rattle.registry_laws.specs.Machines.{LeadsTo}

@@ -1,3 +1,4 @@
+pub mod Asks
 pub mod Refusals
 pub mod Answers
 pub mod Serving

@@ -2,7 +2,7 @@
 --
 -- A connection leads from a place in the log and a history to others. The history after it is that of a machine that shares the log:
 -- so each order that was answered is in the log.
-use Rattle.std.specs.Prelude.{◌≡◌, ◌⊎◌, ⊤, Bool, true, false, ℕ, List, [], ◌∷◌, ◌++◌, Option, None, Some, Result, Ok, Err, if◌then◌else◌}
+use Rattle.std.specs.Prelude.{◌≡◌, ◌⊎◌, ⊤, true, false, List, [], ◌∷◌, ◌++◌, Option, None, Some, Result, Ok, Err, if◌then◌else◌}
 use Rattle.sqlite.specs.Store.{Ghosts}
 use Rattle.byte_streams.specs.declared.streams.Broken.{Broken}
 use Rattle.registry_rules.specs.History.{History}

@@ -8,10 +8,12 @@ ghost use Rattle.registry_http.specs.Responses.{refusal_response};
 ghost use Rattle.registry_http.specs.declared.message.Message.TheVariants as messages;
 ghost use Rattle.registry_desk.specs.Cache.{AreTextsOf, no_texts};
 ghost use Rattle.shared_log.specs.Calls.{IsKept, LogLines};
+ghost use Rattle.shared_registry.specs.Asks.{AppendsNothing, AppendsRequest, IsAsked};
 ghost use Rattle.shared_registry.specs.Lines.{fault_in};
 ghost use Rattle.shared_registry.specs.Follows.{Follows, HasFollowed, IsLeft};
 ghost use Rattle.shared_registry.specs.declared.stop.ShareStop.TheVariants as stops;
 ghost use Rattle.shared_desk.specs.Answers.{Answers, IsUnanswered};
+ghost use Rattle.shared_desk.specs.Asks.{AppendsOrder};
 
 use crate::refusal::stop_of;
 use registry_desk::{Cache, answer_query};
@@ -49,6 +51,7 @@ fn follow_first<S: Alter, L: Log>(
         → IfErr result (IsLeft L.Log lines cursor.old registry.new cursor.new h) }
     ensures notes { NotesForeign registry.old registry.new (fault_in result) }
     ensures endures { Endures (state_of registry.old) (state_of registry.new) }
+    ensures asks { IsAsked L.Log AppendsNothing cursor.old.log cursor.new.log }
 {
     let before = cursor.next();
     match follow(registry, cursor) {
@@ -75,6 +78,7 @@ fn answer_after_following<S: Alter, L: Log>(
         → IfErr result (IsUnanswered L.Log lines cursor.old registry.new cursor.new h (Ok (messages.Query query.now))) }
     ensures notes { NotesForeign registry.old registry.new (fault_in result) }
     ensures endures { Endures (state_of registry.old) (state_of registry.new) }
+    ensures asks { IsAsked L.Log AppendsNothing cursor.old.log cursor.new.log }
 {
     if let Err(stop) = follow_first(registry, cursor, cache) {
         return Err(stop);
@@ -101,6 +105,8 @@ fn act_on_order<S: Alter, L: Log>(
         → IfErr result (IsLeft L.Log lines cursor.old registry.new cursor.new h) }
     ensures notes { NotesForeign registry.old registry.new (fault_in result) }
     ensures endures { Endures (state_of registry.old) (state_of registry.new) }
+    ensures asks { (lines : L → LogLines) → IsKept L.Log lines → (h : History) → Follows L.Log lines registry.old cursor.old h → HasCleanDisk (state_of registry.new)
+        → IsAsked L.Log (AppendsRequest request.now) cursor.old.log cursor.new.log }
 {
     let before = cursor.next();
     match act(registry, cursor, request) {
@@ -130,6 +136,8 @@ fn answer_message<S: Alter, L: Log>(
         → IfErr result (IsUnanswered L.Log lines cursor.old registry.new cursor.new h (Ok message.now)) }
     ensures notes { NotesForeign registry.old registry.new (fault_in result) }
     ensures endures { Endures (state_of registry.old) (state_of registry.new) }
+    ensures asks { (lines : L → LogLines) → IsKept L.Log lines → (h : History) → Follows L.Log lines registry.old cursor.old h → HasCleanDisk (state_of registry.new)
+        → IsAsked L.Log (AppendsOrder (Ok message.now)) cursor.old.log cursor.new.log }
 {
     match message {
         Message::Query(query) => answer_after_following(alloc, registry, cursor, cache, query),
@@ -167,6 +175,8 @@ pub(crate) fn answer<S: Alter, L: Log>(
     ensures when_poisoned { is_poisoned registry.old ≡ true → OnOk said.now ((result ≡ Err (ShareStop.Registry Fault.Poisoned)) × (registry.new ≡ registry.old) × (cursor.new ≡ cursor.old)) }
     ensures notes { NotesForeign registry.old registry.new (fault_in result) }
     ensures endures { Endures (state_of registry.old) (state_of registry.new) }
+    ensures asks { (lines : L → LogLines) → IsKept L.Log lines → (h : History) → Follows L.Log lines registry.old cursor.old h → HasCleanDisk (state_of registry.new)
+        → IsAsked L.Log (AppendsOrder said.now) cursor.old.log cursor.new.log }
 {
     match said {
         Ok(message) => answer_message(alloc, registry, cursor, cache, message),

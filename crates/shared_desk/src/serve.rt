@@ -11,7 +11,9 @@ ghost use Rattle.registry_http.specs.Responses.{unavailable_response};
 ghost use Rattle.registry_desk.specs.Cache.{AreTextsOf, cache_after};
 ghost use Rattle.registry_desk.specs.Serving.{Sends};
 ghost use Rattle.shared_log.specs.Calls.{IsKept, LogLines};
+ghost use Rattle.shared_registry.specs.Asks.{IsAsked};
 ghost use Rattle.shared_registry.specs.Follows.{Follows};
+ghost use Rattle.shared_desk.specs.Asks.{AppendsOrderIn};
 ghost use Rattle.shared_desk.specs.Refusals.{fault_behind, unavailable_for};
 ghost use Rattle.shared_desk.specs.Serving.{IsServedBeside, IsTold, IsToldBy, IsTurnedAway, done_for_cache, stop_behind};
 
@@ -106,7 +108,9 @@ pub(crate) fn serve_message<R: Source, W: Sink, S: Alter, L: Log>(
         × IsToldBy turn.stop response
         × ((lines : L → LogLines) → IsKept L.Log lines → (h : History) → Follows L.Log lines registry.old cursor.old h → HasCleanDisk (state_of registry.new) → AreTextsOf h cache.old
         → IsServedBeside L.Log lines cursor.old registry.new cursor.new h bytes response cache.new turn.stop)
-        × (is_poisoned registry.old ≡ true → IsTurnedAway bytes response turn.stop × (registry.new ≡ registry.old) × (cursor.new ≡ cursor.old))) }
+        × (is_poisoned registry.old ≡ true → IsTurnedAway bytes response turn.stop × (registry.new ≡ registry.old) × (cursor.new ≡ cursor.old))
+        × ((lines : L → LogLines) → IsKept L.Log lines → (h : History) → Follows L.Log lines registry.old cursor.old h → HasCleanDisk (state_of registry.new)
+        → IsAsked L.Log (AppendsOrderIn bytes) cursor.old.log cursor.new.log)) }
     ensures notes { NotesForeign registry.old registry.new (fault_behind (stop_behind result)) }
     ensures read { OnErr result (FailsAfter (R.remaining source.old) (R.remaining source.new) (R.failures source.old) (R.failures source.new) IsIncomplete × (sink.new ≡ sink.old) × (registry.new ≡ registry.old) × (cursor.new ≡ cursor.old) × (cache.new ≡ cache.old)) }
     ensures kept { OnOk result (R.failures source.new ≡ R.failures source.old) }

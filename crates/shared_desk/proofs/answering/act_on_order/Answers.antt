@@ -9,3 +9,12 @@ returns-in-Ok-reply_response-clause-ok g c lines kept h follows clean of =
 pub returns-in-Ok-clause-err : goal.returns-in-Ok-clause-err
 returns-in-Ok-clause-err g c lines kept h follows clean =
     order_unanswered g.L.Log lines c.args.cursor.now h c.act.new.registry c.act.new.cursor c.args.request.now c.in-Ok.reply (c.in-Ok.ensures.ok lines kept h follows clean)
+
+pub returns-in-Ok-reply_response-clause-asks : goal.returns-in-Ok-reply_response-clause-asks
+returns-in-Ok-reply_response-clause-asks g c = c.act.ensures.asks
+
+pub returns-in-Ok-clause-asks : goal.returns-in-Ok-clause-asks
+returns-in-Ok-clause-asks g c = c.act.ensures.asks
+
+pub returns-clause-asks : goal.returns-clause-asks
+returns-clause-asks g c = c.act.ensures.asks

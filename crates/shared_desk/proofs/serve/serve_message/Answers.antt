@@ -1,12 +1,14 @@
-use Rattle.std.proofs.Common.{◌≡◌, ◌∙◌, ℕ, List, Option, inl, inr, refl, sym, subst}
+use Rattle.std.proofs.Common.{ℕ, List, Option, inl, inr, refl, sym, subst}
 use Rattle.byte_streams.specs.Streams.{MayGive}
 use Rattle.registry_http.specs.Messages.{Says}
 use Rattle.registry_http.specs.Responses.{unavailable_response}
 use Rattle.registry_http.proofs.MessageLemmas.{may_give_some}
 use Rattle.registry_store.specs.declared.fault.Fault.{Fault}
 use Rattle.registry_store.specs.Promise.{NotesForeign}
+use Rattle.shared_registry.proofs.AskLemmas.{asked_nothing, asked_weaker}
 use Rattle.shared_registry.proofs.LineLemmas.{leads_nowhere}
 use Rattle.shared_registry.specs.declared.stop.ShareStop.TheVariants as stops
+use Rattle.shared_desk.specs.Asks.{AppendsOrder, AppendsOrderIn}
 use Rattle.shared_desk.specs.Refusals.{unavailable_for}
 use Rattle.shared_desk.proofs.ServeLemmas.{same_fault, served_then, told_by, turned_away}
 use Rattle.shared_desk.proofs.serve.serve_message.Goals as goal
@@ -35,6 +37,9 @@ returns-clause-served g c =
         λ poisoned.
             turned_away c.args.registry.now c.answer-done.new.registry c.args.cursor.now c.answer-done.new.cursor c.founding.result.now.vendor says.0 c.match-read_message.said c.answer-done.result told.0 stop says.2 done.refused (done.when_poisoned poisoned)
             told.1,
+        λ lines kept h follows clean.
+            asked_weaker g.L.Log (AppendsOrder c.match-read_message.said) (AppendsOrderIn says.0) (λ n line it. (c.founding.result.now.vendor, c.match-read_message.said, says.2, it))
+            c.args.cursor.now.log c.answer-done.new.cursor.log (done.asks lines kept h follows clean),
       ),
     )
 
@@ -60,5 +65,6 @@ returns-in-Err-NoMemory-clause-served g c =
         refl,
         λ lines kept h follows clean of. (inl (h, leads_nowhere h, follows), c.clear.ensures),
         λ poisoned. (inr refl, refl, refl),
+        λ lines kept h follows clean. asked_nothing g.L.Log (AppendsOrderIn all.0) c.args.cursor.now.log,
       ),
     )

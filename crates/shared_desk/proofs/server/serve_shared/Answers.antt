@@ -6,14 +6,16 @@ use Rattle.registry_store.specs.Promise.{is_poisoned, state_of}
 use Rattle.registry_store.proofs.IsQueryLemmas.{notes_then}
 use Rattle.registry_desk.proofs.CacheLemmas.{none_are}
 use Rattle.registry_desk.proofs.ServerLemmas.{length_more, visited_more}
+use Rattle.shared_registry.proofs.AskLemmas.{asked_nothing}
+use Rattle.shared_desk.specs.Asks.{AppendsOrdersIn}
 use Rattle.shared_desk.specs.Server.{IsTurnedAwayAt}
-use Rattle.shared_desk.proofs.ServerLemmas.{all_more, ended_by, ends_after, follows_more}
+use Rattle.shared_desk.proofs.ServerLemmas.{all_more, asked_more, ended_by, ends_after, follows_more}
 use Rattle.shared_desk.proofs.server.serve_shared.Goals as goal
 
 pub loop-init : goal.loop-init
 loop-init g c = record {
   endures = search rules;
-  served = ([], refl, refl, λ lines kept h follows clean. (h, (refl, refl), follows, none_are h c.new-cache.result c.new-cache.ensures), λ poisoned. (All-nil IsTurnedAwayAt, refl, refl));
+  served = ([], refl, refl, λ lines kept h follows clean. (h, (refl, refl), follows, none_are h c.new-cache.result c.new-cache.ensures), λ poisoned. (All-nil IsTurnedAwayAt, refl, refl), λ lines kept h follows clean. asked_nothing g.L.Log (AppendsOrdersIn []) c.args.cursor.now.log);
   notes = refl;
 }
 
@@ -35,6 +37,10 @@ loop-preserved g c =
             let away = so_far.4 poisoned in
             let one = came.4 (subst (λ r. is_poisoned r ≡ true) (sym away.1) poisoned) in
             (all_more IsTurnedAwayAt so_far.0 came.0 away.0 one.0, one.1 ∙ away.1, one.2 ∙ away.2),
+        λ lines kept h follows clean.
+            let early : HasCleanDisk (state_of c.loop.registry) = omega (arith, c.serve_beside.ensures.endures.clean, clean) in
+            let before = so_far.3 lines kept h follows early in
+            asked_more g.L.Log so_far.0 came.0 c.args.cursor.now.log c.loop.cursor.log c.serve_beside.new.cursor.log (so_far.5 lines kept h follows early) (came.5 lines kept before.0 before.2 clean),
       );
       notes = notes_then c.args.registry.now c.loop.registry c.serve_beside.new.registry None c.loop.invariant.notes c.in-Ok.ensures.notes;
     }
@@ -46,7 +52,7 @@ returns-in-Err-clause-served g c =
     c.args.connections.now c.loop.connections c.serve_beside.new.connections c.args.registry.now c.loop.registry c.serve_beside.new.registry c.args.cursor.now c.loop.cursor c.serve_beside.new.cursor c.loop.cache c.serve_beside.new.cache c.args.count so_far.0
     c.in-Err.stop so_far.1 (omega (arith, so_far.2, c.loop-test.true))
     (λ clean. omega (arith, c.serve_beside.ensures.endures.clean, clean))
-    so_far.3 so_far.4 c.in-Err.ensures.visited (λ same. c.in-Err.ensures.none (ap Err same))
+    so_far.3 so_far.4 so_far.5 c.in-Err.ensures.visited (λ same. c.in-Err.ensures.none (ap Err same))
 
 pub returns-clause-served : goal.returns-clause-served
 returns-clause-served g c =
@@ -60,4 +66,5 @@ returns-clause-served g c =
       tt,
       λ lines kept h follows clean. ends_after g.L.Log lines c.args.cursor.now h c.loop.registry c.loop.cursor c.loop.cache so_far.0 (so_far.3 lines kept h follows clean),
       so_far.4,
+      so_far.5,
     )

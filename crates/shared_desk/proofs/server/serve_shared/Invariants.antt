@@ -5,7 +5,9 @@ use Rattle.registry_rules.specs.History.{History}
 use Rattle.registry_store.specs.Promise.{Endures, NotesForeign, is_poisoned, state_of}
 use Rattle.registry_desk.specs.Server.{Visit, HaveVisited}
 use Rattle.shared_log.specs.Calls.{IsKept, LogLines}
+use Rattle.shared_registry.specs.Asks.{IsAsked}
 use Rattle.shared_registry.specs.Follows.{Follows}
+use Rattle.shared_desk.specs.Asks.{AppendsOrdersIn}
 use Rattle.shared_desk.specs.Server.{IsTurnedAwayAt}
 use Rattle.shared_desk.proofs.ServerLemmas.{FollowsBeside}
 use Rattle.shared_desk.proofs.server.serve_shared.Given as goal
@@ -19,6 +21,7 @@ invariant-loop g l = record {
       × HaveVisited g.C.Connections.opens g.C.Connections.closes g.C.Reader.Source.remaining g.C.Reader.Source.failures g.C.Writer.Sink.contents g.C.Writer.Sink.failures l.initial.connections l.connections visits
       × (length visits ≡ l.counter)
       × ((lines : g.row.L.Denot → LogLines) → IsKept g.L.Log lines → (h : History) → Follows g.L.Log lines l.initial.registry l.initial.cursor h → HasCleanDisk (state_of l.registry) → FollowsBeside g.L.Log lines l.initial.cursor h l.registry l.cursor l.cache visits)
-      × (is_poisoned l.initial.registry ≡ true → All IsTurnedAwayAt visits × (l.registry ≡ l.initial.registry) × (l.cursor ≡ l.initial.cursor));
+      × (is_poisoned l.initial.registry ≡ true → All IsTurnedAwayAt visits × (l.registry ≡ l.initial.registry) × (l.cursor ≡ l.initial.cursor))
+      × ((lines : g.row.L.Denot → LogLines) → IsKept g.L.Log lines → (h : History) → Follows g.L.Log lines l.initial.registry l.initial.cursor h → HasCleanDisk (state_of l.registry) → IsAsked g.L.Log (AppendsOrdersIn visits) l.initial.cursor.log l.cursor.log);
   notes : NotesForeign l.initial.registry l.registry None;
 }
