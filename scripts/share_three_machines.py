@@ -34,6 +34,8 @@ from lib.usbreg import done, folder, program, same
 CLIENTS, SECONDS, CONTROL = 8, 300, 12
 # The seconds in which a line gets into the log that was sent to it too late.
 LATE = 2
+# The lines of a log that a new store acts on in a second, at least.
+LINES = 100
 # The seconds that a client waits for a response, that a fault lasts, and that pass before the next one.
 WAIT, LASTS, BETWEEN = 25, (2.0, 5.0), (0.5, 2.0)
 SITE = "https://acme.example/"
@@ -229,11 +231,12 @@ def fail_in_turn(machines, seconds, chance):
 
 
 def wait_for_all(machines):
-    """Waits until each machine's own server answers."""
-    until = time.monotonic() + PATIENCE
+    """Waits until each machine's own server answers. One may have to act on all lines of the log before."""
+    begun = time.monotonic()
     for machine in machines:
         while machine.curl("/head") is None:
-            if time.monotonic() > until:
+            taken = time.monotonic() - begun
+            if taken > PATIENCE and taken > PATIENCE + len(machine.lines()) / LINES:
                 sys.exit(f"FAILED: the machine {machine.address} does not answer: {machine.said()}")
             time.sleep(0.3)
 
