@@ -215,11 +215,20 @@ impl<'a, S: Start> Logs for Machine<'a, S> {
 
     ghost leaves = { λ _ _ _ _. ⊤ };
 
+    ghost closes = { λ _ _ _. ⊤ };
+
     fn log_at(&mut self, address: &str) -> Result<EtcdLog<LogPort<'a>>, NoLog> {
         log_at(self.rt, address)
     }
 
     fn leave_log(&mut self, log: EtcdLog<LogPort<'a>>, stop: ShareStop) {
         self.notes.note(About::Log, trouble_of(log.fault(), stop));
+    }
+
+    // The connection ends where the log is dropped.
+    fn close_log(&mut self, log: EtcdLog<LogPort<'a>>)
+        ensures { ⊤ }
+    {
+        drop(log);
     }
 }

@@ -141,7 +141,7 @@ module _ {H F I R W K : Type 0} (m : host.Ghosts H F I) (d : disk.Ghosts F) (c :
     followed_whole : Whole
     followed_whole = elim followed.does [
       | inl served ↦ inl (served_whole served)
-      | inr not ↦ inr (stays_joined m d k l old new path address ends Does over same followed.middle followed.taken.joins.untouched not.1)
+      | inr not ↦ inr (stays_joined m d k l old new path address ends Does over same followed.middle followed.taken.joins.untouched not.3)
     ]
 
   pub serves_shared_whole : ServesShared m d c r w k l old new path port limit address ends → ServesSharedWholly m d c r w k l old new path port limit address ends

@@ -32,7 +32,7 @@ use Rattle.registry_program.specs.Sharing.{IsFollowed, IsNotFollowed, TellsStop}
 
 -- How a command ends that acted over a log: as it did; or this stopped it, and the log is left.
 abbrev pub TellsEnd : {H K : Type 0} → logs.Ghosts H K → H → H → K → Result ExitStatus ShareStop → Ends → Type 0
-TellsEnd k old new log (Ok status) ends = (new ≡ old) × (ends.status ≡ status) × (ends.errors.new ≡ ends.errors.old)
+TellsEnd k old new log (Ok status) ends = k.closes old new log × (ends.status ≡ status) × (ends.errors.new ≡ ends.errors.old)
 TellsEnd k old new log (Err stop) ends = k.leaves old new log stop × TellsStop stop ends
 
 -- the input could not be opened, which is printed, and nothing was done

@@ -42,7 +42,7 @@ module _ {S L : Type 0} {g : store.Ghosts S} (l : log.Ghosts L) (it after : Regi
 module _ {H K : Type 0} (k : logs.Ghosts H K) (l : log.Ghosts K) where
   -- how a command ends that only asked something of a log
   abbrev pub TellsFollowed : H → H → K → Result (Unit {0}) ShareStop → Ends → Type 0
-  TellsFollowed old new log (Ok done) ends = (new ≡ old) × IsSilent ends
+  TellsFollowed old new log (Ok done) ends = k.closes old new log × IsSilent ends
   TellsFollowed old new log (Err stop) ends = k.leaves old new log stop × TellsStop stop ends
 
   -- the registry, which follows the log, acted on its lines, and the command ended so
@@ -54,11 +54,13 @@ module _ {H K : Type 0} (k : logs.Ghosts H K) (l : log.Ghosts K) where
 
   -- the founding with whose line the log at this address begins was read
   pub record IsFoundedAt (address : List ℕ) (old new : H) (founding : Founding) : Type 0 where
+    pub found : H
     pub log : K
     pub last : K
-    pub finds : k.finds old new address log
+    pub finds : k.finds old found address log
     pub begins : (lines : K → LogLines) → IsKept l lines → AtSomeInstant (lines log) (lines last) (BeginsWith founding)
     pub asks : IsAsked l AppendsNothing log last
+    pub closes : k.closes found new last
 
   -- there is none, for this reason
   pub record IsUnfoundedAt (address : List ℕ) (old new : H) (ends : Ends) : Type 0 where

@@ -93,13 +93,13 @@ module _ {S L : Type 0} {g : store.Ghosts S} (l : log.Ghosts L) (it after : Regi
 module _ {H K : Type 0} (k : logs.Ghosts H K) where
   -- how a command ends that took up a log, and left it
   abbrev pub TellsShared : H → H → Result (Cursor K) (ShareStop × K) → Ends → Type 0
-  TellsShared old new (Ok cursor) ends = (new ≡ old) × IsSilent ends
+  TellsShared old new (Ok cursor) ends = k.closes old new (log_of cursor) × IsSilent ends
   TellsShared old new (Err left) ends = k.leaves old new left.1 left.0 × TellsStop left.0 ends
 
   -- how a server ends, and leaves its log
   abbrev pub TellsServed : H → H → K → Result (Unit {0}) SharedStop → Ends → Type 0
-  TellsServed old new log (Ok done) ends = (new ≡ old) × IsSilent ends
-  TellsServed old new log (Err ends.Connections) ends = (new ≡ old) × IsSocketFailure ends
+  TellsServed old new log (Ok done) ends = k.closes old new log × IsSilent ends
+  TellsServed old new log (Err ends.Connections) ends = k.closes old new log × IsSocketFailure ends
   TellsServed old new log (Err (ends.Share stop)) ends = k.leaves old new log stop × TellsStop stop ends
 
   module _ (l : log.Ghosts K) where
@@ -170,7 +170,9 @@ module _ {H F I R W K : Type 0} (m : host.Ghosts H F I) (c : connections.Ghosts 
 
   -- that, or it could not listen
   abbrev pub ServesJoined : {S : Type 0} {g : store.Ghosts S} → ℕ → ℕ → H → H → Registry S g → Registry S g → Cursor K → Ends → Type 0
-  ServesJoined port limit old new it after cursor ends = IsServedOver port limit old new it after cursor ends ⊎ (m.is_refused old new port × (after ≡ it) × IsSocketFailure ends)
+  ServesJoined port limit old new it after cursor ends =
+      IsServedOver port limit old new it after cursor ends
+      ⊎ ((refused : H) × m.is_refused old refused port × k.closes refused new (log_of cursor) × (after ≡ it) × IsSocketFailure ends)
 
   -- serve STORE over the log at an address
   abbrev pub ServesOver : {S : Type 0} {g : store.Ghosts S} → ℕ → ℕ → List ℕ → H → H → Registry S g → Registry S g → Ends → Type 0

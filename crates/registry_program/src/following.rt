@@ -93,7 +93,10 @@ pub(crate) fn end_acting<H: Logs, E: Sink>(
     ensures { (out : _) → TellsEnd H.Logs host.old host.new log end (silent_ends E.Sink out errors.old errors.new result) }
 {
     match end {
-        Ok(status) => status,
+        Ok(status) => {
+            host.close_log(log);
+            status
+        }
         Err(stop) => {
             host.leave_log(log, stop);
             fail_by(errors, stop)

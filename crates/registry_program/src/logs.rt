@@ -30,6 +30,9 @@ pub trait Logs {
     /// The log was left, for this reason.
     ghost leaves: { Self → Self → Self.Log → ShareStop → Type 0 };
 
+    /// The log was closed in this state, so that nothing more is asked of it.
+    ghost closes: { Self → Self → Self.Log → Type 0 };
+
     /// Returns the log at an address. Nothing is asked of it yet.
     ///
     /// # Errors
@@ -42,4 +45,8 @@ pub trait Logs {
     /// Leaves a log with which a registry did not go on, and notes the reason.
     fn leave_log(&mut self, log: Self::Log, stop: ShareStop)
         ensures { leaves self.old self.new log stop };
+
+    /// Closes a log once all was done with it.
+    fn close_log(&mut self, log: Self::Log)
+        ensures { closes self.old self.new log };
 }

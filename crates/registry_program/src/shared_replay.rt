@@ -29,7 +29,10 @@ fn replay_joined<H: Logs, S: Alter, E: Sink>(
     let end = follow(registry, &mut cursor);
     let log = cursor.into_log();
     match end {
-        Ok(()) => ExitStatus::Success,
+        Ok(()) => {
+            host.close_log(log);
+            ExitStatus::Success
+        }
         Err(stop) => {
             host.leave_log(log, stop);
             fail_by(errors, stop)
@@ -69,7 +72,10 @@ fn read_founding_at<H: Logs, E: Sink>(
         Err(why) => return Err(refuse_address(errors, why)),
     };
     match read_founding(alloc, &mut log) {
-        Ok(founding) => Ok(founding),
+        Ok(founding) => {
+            host.close_log(log);
+            Ok(founding)
+        }
         Err(stop) => {
             host.leave_log(log, stop);
             Err(fail_by(errors, stop))

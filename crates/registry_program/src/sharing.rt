@@ -35,7 +35,7 @@ fn share_into<H: Logs, S: Alter, E: Sink>(
     };
     match share(alloc, registry, log) {
         Ok(cursor) => {
-            let _log = cursor.into_log();
+            host.close_log(cursor.into_log());
             ExitStatus::Success
         }
         Err((stop, log)) => {
@@ -74,8 +74,14 @@ fn end_serving<H: Logs, E: Sink>(
     ensures { (out : _) → TellsServed H.Logs host.old host.new log served (silent_ends E.Sink out errors.old errors.new result) }
 {
     match served {
-        Ok(()) => ExitStatus::Success,
-        Err(SharedStop::Connections) => fail_socket(errors),
+        Ok(()) => {
+            host.close_log(log);
+            ExitStatus::Success
+        }
+        Err(SharedStop::Connections) => {
+            host.close_log(log);
+            fail_socket(errors)
+        }
         Err(SharedStop::Share(stop)) => {
             host.leave_log(log, stop);
             fail_by(errors, stop)
@@ -103,7 +109,7 @@ fn serve_joined<H: Host + Connections + Logs, S: Alter, E: Sink>(
             end_serving(host, cursor.into_log(), errors, served)
         }
         Err(Broken) => {
-            let _log = cursor.into_log();
+            host.close_log(cursor.into_log());
             fail_socket(errors)
         }
     }

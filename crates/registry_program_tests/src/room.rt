@@ -184,6 +184,8 @@ impl Logs for Room<'_> {
 
     ghost leaves = { λ _ _ _ _. ⊤ };
 
+    ghost closes = { λ _ _ _. ⊤ };
+
     fn log_at(&mut self, address: &str) -> Result<MemoryLog, NoLog> {
         let name = address.strip_prefix("http://room/").unwrap_or(address);
         let inputs = self.inputs;
@@ -200,6 +202,11 @@ impl Logs for Room<'_> {
         let count = log.lines().len();
         let _ = write!(self.calls, "{count} lines, {stop:?} ");
         self.missed = Some(About::Log);
+    }
+
+    fn close_log(&mut self, log: MemoryLog) {
+        let count = log.lines().len();
+        let _ = write!(self.calls, "{count} lines ");
     }
 }
 

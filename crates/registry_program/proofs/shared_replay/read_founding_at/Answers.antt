@@ -4,11 +4,13 @@ use Rattle.registry_program.proofs.shared_replay.read_founding_at.Goals as goal
 pub returns-in-Ok-read_founding-clause-ok : goal.returns-in-Ok-read_founding-clause-ok
 returns-in-Ok-read_founding-clause-ok g c = (
   record {
+    found = c.log_at.new.self;
     log = c.in-Ok.log;
     last = c.read_founding.new.log;
     finds = c.in-Ok.ensures.found;
     begins = c.in-Ok-read_founding.ensures.ok;
     asks = c.in-Ok-read_founding.ensures.asks;
+    closes = c.close_log.ensures;
   },
   refl,
 )

@@ -12,7 +12,7 @@ returns-in-Ok g c out = record {
     notes = c.follow-end.ensures.notes;
     endures = c.follow-end.ensures.endures;
   };
-  tells = rw c.in-Ok.is (refl, (refl, refl, refl));
+  tells = rw c.in-Ok.is (subst (λ log. g.H.Logs.closes c.args.host.now c.close_log.new.self log) c.into_log-log.ensures c.close_log.ensures, (refl, refl, refl));
 }
 
 pub returns-in-Err : goal.returns-in-Err

@@ -19,4 +19,4 @@ returns-in-Ok g c out =
     })
 
 pub returns-in-Err : goal.returns-in-Err
-returns-in-Err g c out = inr (c.in-Err.ensures.refused, refl, (refl, c.fail_socket.ensures.status, c.fail_socket.ensures.told))
+returns-in-Err g c out = inr (c.listen.new.self, c.in-Err.ensures.refused, subst (λ log. g.H.Logs.closes c.listen.new.self c.close_log.new.self log) c.into_log-in-Err.ensures c.close_log.ensures, refl, (refl, c.fail_socket.ensures.status, c.fail_socket.ensures.told))

@@ -1,4 +1,4 @@
-use Rattle.std.proofs.Common.{inl, inr, refl}
+use Rattle.std.proofs.Common.{inl, inr, refl, subst}
 use Rattle.std.specs.Prelude.{Ok, Err}
 use Rattle.registry_program.proofs.sharing.share_into.Goals as goal
 
@@ -17,7 +17,7 @@ returns-in-Ok-share g c out = inl (record {
   };
   asks = c.in-Ok-share.ensures.asks;
   never_ahead = tt;
-  tells = (refl, (refl, refl, refl));
+  tells = (subst (λ log. g.H.Logs.closes c.log_at.new.self c.close_log.new.self log) c.into_log.ensures c.close_log.ensures, (refl, refl, refl));
 })
 
 pub returns-in-Err-share : goal.returns-in-Err-share
