@@ -1,9 +1,9 @@
 -- Reading a body piece by piece.
-use Rattle.std.proofs.Common.{◌≡◌, ◌≢◌, ℕ, ◌+◌, ◌≤◌, ◌==◌, ◌&&◌, Bool, true, false, cond, Some, None, Result, Ok, Err, List, [], ◌++◌, length, drop, sym, refl, subst, ap, ◌∙◌, append_assoc, arith, length-append}
-use Rattle.std.proofs.lemmas.List.{append-nil, length-map, length-take, length-drop, drop-drop, drop-append-le}
+use Rattle.std.proofs.Common.{◌≡◌, ◌≢◌, ℕ, ◌+◌, ◌≤◌, ◌==◌, ◌&&◌, Bool, true, false, cond, Some, None, Result, Ok, Err, List, [], ◌++◌, length, take, drop, inl, inr, ⊎_elim, sym, refl, subst, ap, ◌∙◌, append_assoc, arith, length-append, take-append-drop}
+use Rattle.std.proofs.lemmas.List.{append-nil, length-map, length-take, length-drop, drop-drop, drop-append-le, drop_all}
 use Rattle.httparse.specs.declared.spans.HeaderSpan.{HeaderSpan}
 use Rattle.std.specs.Prelude.{nat_le}
-use Rattle.httparse.specs.Grammar.{Field, status_code}
+use Rattle.httparse.specs.Grammar.{Field, MayBecomeSection, status_code}
 use Rattle.http1.specs.declared.framing.Framing.{Framing}
 use Rattle.http1.specs.declared.framing.Framing.TheVariants as Framed
 use Rattle.http1.specs.declared.framing.FramingError.{FramingError}
@@ -13,15 +13,17 @@ use Rattle.http1.specs.Message.{known_of}
 use Rattle.http1.specs.declared.decode.Decoder.{Decoder}
 use Rattle.http1.specs.declared.decode.Decoder.TheVariants.{Length, Chunked, UntilClose}
 use Rattle.http1.specs.Body.{Body, body_of, ReadsBody}
-use Rattle.http1.specs.Decoder.{decoder_for, Completes, with_front, Runs, Continues, Starves, Ends, HasNoBody}
+use Rattle.http1.specs.Decoder.{decoder_for, AwaitsTrailers, Completes, with_front, IsLive, Runs, Continues, Starves, Ends, HasNoBody}
+use Rattle.http1.proofs.DecoderLemmas.{decoder_for-live}
 use Rattle.http1.proofs.OneParse.{body_from_completes, body_unique, completes_from_body}
 use Rattle.http_exchange.specs.declared.start.Start.{Start}
 use Rattle.http_exchange.specs.Bodies.{Goes, IsAt, first_of}
 use Rattle.http_exchange.specs.Heads.{HasHead, limits, if_bounded}
 use Rattle.http_exchange.specs.declared.connection.Connection.{Ghosts}
 use Rattle.http_exchange.specs.Exchanges.{ReadsMore, most_message}
-use Rattle.http_exchange.specs.Answers.{IsAnswer, HasNoAnswer, NeverAnswers, SaysOneThing}
+use Rattle.http_exchange.specs.Answers.{AwaitsFields, IsAnswer, IsAwaited, HasNoAnswer, MayAnswer, NeverAnswers, SaysOneThing}
 use Rattle.http_exchange.proofs.HeadLemmas.{has_head_more, same_start}
+use Rattle.http_exchange.proofs.EndLemmas.{can_end, chunks_taken, has_room, is_live, takes_nothing, takes_on}
 
 fronts : (got piece : List ℕ) (body : Body) → with_front got (with_front piece body) ≡ with_front (got ++ piece) body
 fronts got piece body = ap (λ (t : List ℕ). body_of t body.trailers) (sym (append_assoc got piece body.bytes))
@@ -31,12 +33,15 @@ stays_bounded (Length left) new input piece len bounded runs = λ until. let is 
 stays_bounded (Chunked chunks most) new input piece len bounded runs = λ until. let is = runs.1 in cc
 stays_bounded UntilClose new input piece len bounded runs = absurd (bounded refl)
 
-pub goes_nowhere : (d : Decoder) (whole : List ℕ) → d ≢ UntilClose → Goes d d whole whole []
-goes_nowhere d whole bounded = record { bounded = bounded; back = λ more body rest h. h; forth = λ more body rest h. (body, refl, h) }
+pub goes_nowhere : (d : Decoder) (whole : List ℕ) → d ≢ UntilClose → IsLive d → Goes d d whole whole []
+goes_nowhere d whole bounded live = record { bounded = bounded; taken = []; split = refl; has_taken = takes_nothing d live; back = λ more body rest h. h; forth = λ more body rest h. (body, refl, h) }
 
 pub goes_on : (first now next : Decoder) (whole left got piece : List ℕ) (len : ℕ) → Goes first now whole left got → Continues now left next len piece → Goes first next whole (drop len left) (got ++ piece)
 goes_on first now next whole left got piece len g c = record {
   bounded = stays_bounded now next left piece len g.bounded c.runs;
+  taken = g.taken ++ take len left;
+  split = g.split ∙ ap (λ (t : List ℕ). g.taken ++ t) (sym (take-append-drop len left)) ∙ sym (append_assoc g.taken (take len left) (drop len left));
+  has_taken = takes_on first now next g.taken left got piece len g.has_taken c.runs;
   back = λ more body rest h. subst (λ (b : Body). Completes first (whole ++ more) b rest) (fronts got piece body) (g.back more (with_front piece body) rest (c.back more body rest h));
   forth = λ more body rest h.
       let a = g.forth more body rest h in
@@ -48,6 +53,9 @@ goes_on first now next whole left got piece len g c = record {
 pub goes_read : (first now : Decoder) (whole left got piece : List ℕ) → Goes first now whole left got → Goes first now (whole ++ piece) (left ++ piece) got
 goes_read first now whole left got piece g = record {
   bounded = g.bounded;
+  taken = g.taken;
+  split = ap (λ (t : List ℕ). t ++ piece) g.split ∙ append_assoc g.taken left piece;
+  has_taken = g.has_taken;
   back = λ more body rest h. subst (λ (t : List ℕ). Completes first t (with_front got body) rest) (sym (append_assoc whole piece more)) (g.back (piece ++ more) body rest (subst (λ (t : List ℕ). Completes now t body rest) (append_assoc left piece more) h));
   forth = λ more body rest h.
       let a = g.forth (piece ++ more) body rest (subst (λ (t : List ℕ). Completes first t body rest) (append_assoc whole piece more) h) in
@@ -106,6 +114,31 @@ no_answer_yet bytes start now next at len got head g starves = record {
       not_whole (first_of start) now next (drop start.len bytes) (drop at bytes) got len g starves (body_of body found.0) found.1 found.2;
 }
 
+-- some bytes can follow that end the body
+may_answer : (bytes : List ℕ) (start : Start) (now : Decoder) (at : ℕ) (got : List ℕ) → HasHead bytes start → GoesTo bytes start now at got → drop at bytes ≡ [] → MayAnswer bytes
+may_answer bytes start now at got head g none =
+    let end = can_end now (is_live (first_of start) now g.taken got g.has_taken) (has_room start.framing now g.taken got g.has_taken) in
+    let there = subst (λ (t : List ℕ). Completes now (t ++ end.0) (body_of end.1 []) []) (sym none) end.2 in
+    let whole = g.back end.0 (body_of end.1 []) [] there in
+    let moved = subst (λ (t : List ℕ). Completes (first_of start) t (body_of (got ++ end.1) []) []) (sym (drop-append-le start.len bytes end.0 head.within)) whole in
+    let answer : IsAnswer (bytes ++ end.0) start.status (got ++ end.1) (start.stays && (length {A = ℕ} [] == 0)) = record {
+      start = start;
+      head = has_head_more bytes start end.0 head;
+      trailers = [];
+      rest = [];
+      reads = body_from_completes limits start.framing (drop start.len (bytes ++ end.0)) (body_of (got ++ end.1) []) [] moved;
+      few = omega arith;
+      status_is = refl;
+      keeps_is = refl;
+    } in
+    (end.0, start.status, got ++ end.1, start.stays && (length {A = ℕ} [] == 0), answer)
+
+-- the chunks are whole, and the fields behind them have begun
+awaits_fields : (bytes : List ℕ) (start : Start) (now : Decoder) (at : ℕ) (got : List ℕ) → HasHead bytes start → GoesTo bytes start now at got → AwaitsTrailers now (length (drop at bytes)) → MayBecomeSection (drop at bytes) → AwaitsFields bytes
+awaits_fields bytes start now at got head g waits begun =
+    let taken = chunks_taken start.framing now (drop start.len bytes) g.taken (drop at bytes) got g.split g.has_taken waits in
+    record { start = start; head = head; chunked = taken.0; chunks = taken.1; fields = drop at bytes; reads = taken.2; begun = begun; short = taken.3 }
+
 pub never_whole : (bytes : List ℕ) (start : Start) (now : Decoder) (at room : ℕ) (got : List ℕ) → HasHead bytes start → GoesTo bytes start now at got → room ≡ 64 → HasNoBody now (drop at bytes) room → NeverAnswers bytes
 never_whole bytes start now at room got head g wide none = record {
   never = λ more status body keeps answer.
@@ -155,7 +188,7 @@ pub begins_at : (bytes : List ℕ) (start : Start) (now : Decoder) → HasHead b
 begins_at bytes start now h few is = record {
   head = h;
   goes = subst (λ (d : Decoder). Goes (first_of start) d (drop start.len bytes) (drop start.len bytes) []) (sym is) (goes_nowhere (first_of start) (drop start.len bytes)
-      (bounded_by (nat_le 200 (status_code h.head)) (response_framing Other (status_code h.head) h.head.minor (known_of h.head.fields)) start.framing h.framed));
+      (bounded_by (nat_le 200 (status_code h.head)) (response_framing Other (status_code h.head) h.head.minor (known_of h.head.fields)) start.framing h.framed) (decoder_for-live limits start.framing));
   within = h.within;
   few = few;
 }
@@ -184,8 +217,17 @@ is_further g old new bytes after left got start now next at len is same dry more
     } in
     subst (λ (t : List ℕ). IsAt t start next (at + len) got) (sym grown) whole
 
-pub is_dry : (bytes left got : List ℕ) (start : Start) (now next : Decoder) (at len : ℕ) → IsAt bytes start now at got → left ≡ drop at bytes → Starves now left next len → HasNoAnswer bytes
-is_dry bytes left got start now next at len is same starves = no_answer_yet bytes start now next at len got is.head is.goes (subst (λ (t : List ℕ). Starves now t next len) same starves)
+-- the body ran dry, and more of it is awaited
+pub is_dry : (bytes left got : List ℕ) (start : Start) (now next : Decoder) (at len : ℕ) → IsAt bytes start now at got → left ≡ drop at bytes → Starves now left next len → IsAwaited bytes
+is_dry bytes left got start now next at len is same starves =
+    let dry = subst (λ (t : List ℕ). Starves now t next len) same starves in
+    let past = goes_past bytes start now next at len got [] is.goes dry.continues in
+    let on = drop-drop len at bytes in
+    record {
+      none = no_answer_yet bytes start now next at len got is.head is.goes dry;
+      wanted = inr (⊎_elim (λ all. inl (may_answer bytes start next (at + len) (got ++ []) is.head past (sym on ∙ drop_all len (drop at bytes) (omega (arith, all)))))
+          (λ waits. inr (awaits_fields bytes start next (at + len) (got ++ []) is.head past (subst (λ (t : List ℕ). AwaitsTrailers next (length t)) on waits) (subst MayBecomeSection on (dry.may_end waits)))) dry.drained);
+    }
 
 pub never_at : (bytes : List ℕ) (start : Start) (now : Decoder) (at room : ℕ) (left got : List ℕ) → IsAt bytes start now at got → left ≡ drop at bytes → room ≡ 64 → HasNoBody now left room → NeverAnswers bytes
 never_at bytes start now at room left got is same wide none = never_whole bytes start now at room got is.head is.goes wide (subst (λ (t : List ℕ). HasNoBody now t room) same none)

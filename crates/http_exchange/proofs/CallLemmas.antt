@@ -3,21 +3,21 @@ use Rattle.std.proofs.Common.{◌≡◌, ℕ, ◌+◌, ◌<◌, Bool, true, fals
 use Rattle.http_exchange.specs.declared.connection.Connection.{Ghosts}
 use Rattle.http_exchange.specs.declared.fault.ExchangeFault.{ExchangeFault}
 use Rattle.http_exchange.specs.declared.fault.ExchangeFault.TheVariants as faults
-use Rattle.http_exchange.specs.Answers.{IsAnswer, HasNoAnswer, NeverAnswers}
-use Rattle.http_exchange.specs.Exchanges.{call_time, HasWritten, none_written, more_written, HasRead, more_read, Looks, IsReady, IsUnready, IsSent, IsRead, ReadFails, ReadsMore, WriteFails, Stops, IsAnswered, IsExchange, ExchangeFails, GetsNoAnswer}
+use Rattle.http_exchange.specs.Answers.{IsAnswer, IsAwaited, NeverAnswers}
+use Rattle.http_exchange.specs.Exchanges.{call_time, most_message, HasWritten, none_written, more_written, HasRead, more_read, Looks, IsReady, IsUnready, IsSent, IsRead, ReadFails, ReadsMore, WriteFails, Stops, IsAnswered, IsExchange, ExchangeFails, GetsNoAnswer}
 
--- further bytes were read, where there was no answer yet
-pub read_on : {C : Type 0} (g : Ghosts C) (first middle last : C) (before after : List ℕ) → HasRead g first middle before → HasNoAnswer before → ReadsMore g middle last before after → HasRead g first last after
-read_on g first middle last before after read none more = subst (λ (t : List ℕ). HasRead g first last t) (sym more.grown) (more_read middle last before more.piece more.room read none more.reads more.some)
+-- further bytes were read, where an answer was awaited
+pub read_on : {C : Type 0} (g : Ghosts C) (first middle last : C) (before after : List ℕ) → HasRead g first middle before → IsAwaited before → ReadsMore g middle last before after → HasRead g first last after
+read_on g first middle last before after read awaited more = subst (λ (t : List ℕ). HasRead g first last t) (sym more.grown) (more_read middle last before more.piece more.room read (awaited, more.short) more.reads more.some)
 
-pub reads_more : {C : Type 0} (g : Ghosts C) (old new : C) (before after piece : List ℕ) (room : ℕ) → g.reads old new room piece → after ≡ before ++ piece → 0 < length piece → ReadsMore g old new before after
-reads_more g old new before after piece room reads grown some = record { room = room; piece = piece; grown = grown; some = some; reads = reads }
+pub reads_more : {C : Type 0} (g : Ghosts C) (old new : C) (before after piece : List ℕ) (room : ℕ) → g.reads old new room piece → after ≡ before ++ piece → 0 < length piece → length before < most_message → ReadsMore g old new before after
+reads_more g old new before after piece room reads grown some short = record { room = room; piece = piece; grown = grown; some = some; reads = reads; short = short }
 
-pub reads_the_end : {C : Type 0} (g : Ghosts C) (old new : C) (before piece : List ℕ) (room n : ℕ) → HasNoAnswer before → g.reads old new room (take n piece) → n ≡ 0 → 0 < room → Stops g before old new faults.Ended
-reads_the_end g old new before piece room n none_yet reads none some = (none_yet, (room, some, subst (λ (k : ℕ). g.reads old new room (take k piece)) none reads))
+pub reads_the_end : {C : Type 0} (g : Ghosts C) (old new : C) (before piece : List ℕ) (room n : ℕ) → IsAwaited before → length before < most_message → g.reads old new room (take n piece) → n ≡ 0 → 0 < room → Stops g before old new faults.Ended
+reads_the_end g old new before piece room n awaited short reads none some = ((awaited, short), (room, some, subst (λ (k : ℕ). g.reads old new room (take k piece)) none reads))
 
-pub reads_without_memory : {C : Type 0} (g : Ghosts C) (old new : C) (before piece : List ℕ) (room : ℕ) → g.reads old new room piece → Stops g before old new faults.NoMemory
-reads_without_memory g old new before piece room reads = inr (room, piece, reads)
+pub reads_without_memory : {C : Type 0} (g : Ghosts C) (old new : C) (before piece : List ℕ) (room : ℕ) → IsAwaited before → length before < most_message → g.reads old new room piece → Stops g before old new faults.NoMemory
+reads_without_memory g old new before piece room awaited short reads = inr ((awaited, short), (room, piece, reads))
 
 pub memory_fails : {C : Type 0} (g : Ghosts C) (first last : C) (bytes : List ℕ) → HasRead g first last bytes → ReadFails g first last faults.NoMemory
 memory_fails g first last bytes read = record { middle = last; bytes = bytes; read = read; stops = inl refl }

@@ -1,9 +1,10 @@
 -- Which bytes have no answer by their head, and which have one.
-use Rattle.std.proofs.Common.{◌≡◌, ℕ, ◌≤◌, ◌<◌, Bool, List, [], ◌++◌, length, take, drop, map, Some, None, sym, subst, ap, ◌∙◌, arith, length-append}
-use Rattle.std.proofs.lemmas.List.{length-map, length-take, drop-append-le}
+use Rattle.std.proofs.Common.{◌≡◌, ℕ, ◌≤◌, ◌<◌, Bool, List, [], ◌∷◌, ◌++◌, length, take, drop, map, Some, None, inl, sym, refl, subst, ap, ◌∙◌, arith, rules, length-append}
+use Rattle.std.proofs.lemmas.List.{append-nil, length-map, length-take, drop-append-le}
+use Rattle.std.proofs.lemmas.List.Elements.{All-nil}
 use Rattle.httparse.specs.declared.spans.HeaderSpan.{HeaderSpan}
 use Rattle.httparse.specs.declared.spans.ResponseSpans.{ResponseSpans}
-use Rattle.httparse.specs.Grammar.{ResponseHead, print_response, ReadsResponse, HasNoResponse, status_code}
+use Rattle.httparse.specs.Grammar.{ResponseHead, print_response, ReadsResponse, HasNoResponse, MayBecomeResponse, status_code, crlf}
 use Rattle.httparse.specs.Spans.{IsResponseAt, IsResponseOf, IsResponseWithin, ResponseOverflows, header_bytes}
 use Rattle.httparse.proofs.GrammarLemmas.{response_unique, response_prefix_free, ReadsResponse-append}
 use Rattle.http1.specs.declared.fields.KnownFields.{KnownFields}
@@ -13,14 +14,24 @@ use Rattle.http1.specs.Message.{known_of}
 use Rattle.http1.proofs.TextLemmas.{front_within}
 use Rattle.http_exchange.specs.declared.start.Start.{Start}
 use Rattle.http_exchange.specs.Heads.{HasHead, framing_of, may_stay}
-use Rattle.http_exchange.specs.Answers.{HasNoAnswer, NeverAnswers}
+use Rattle.http_exchange.specs.Answers.{HasNoAnswer, IsAwaited, NeverAnswers}
 
 pub no_response_nil : HasNoResponse []
 unfolding print_response
 no_response_nil h rest reads = let e = ap length reads.1 in absurd (omega (arith, simp length-append at e))
 
-pub no_answer_without_head : (bytes : List ℕ) → HasNoResponse bytes → HasNoAnswer bytes
+-- a head begins with no byte
+pub response_may_nil : MayBecomeResponse []
+unfolding print_response
+response_may_nil =
+    let head : ResponseHead = record { blank = []; minor = 1; digits = 50 ∷ 48 ∷ 48 ∷ []; reason = None; line_end = crlf; fields = []; last = crlf } in
+    (print_response head, head, (record { minor = omega arith; digits = (refl, search rules); reason = All-nil _; fields = All-nil _ }, sym (append-nil (print_response head))))
+
+no_answer_without_head : (bytes : List ℕ) → HasNoResponse bytes → HasNoAnswer bytes
 no_answer_without_head bytes none = record { none = λ status body keeps answer. none answer.head.head _ answer.head.reads }
+
+pub awaits_head : (bytes : List ℕ) → HasNoResponse bytes → MayBecomeResponse bytes → length bytes < 16384 → IsAwaited bytes
+awaits_head bytes none begun short = record { none = no_answer_without_head bytes none; wanted = inl (record { none = none; begun = begun; short = short }) }
 
 pub never_overflowing : (bytes : List ℕ) (room : ℕ) → room ≡ 64 → ResponseOverflows room bytes → NeverAnswers bytes
 never_overflowing bytes room wide over = record {

@@ -1,3 +1,4 @@
 pub mod BodyLemmas
 pub mod CallLemmas
+pub mod EndLemmas
 pub mod HeadLemmas

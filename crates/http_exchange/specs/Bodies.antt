@@ -1,17 +1,28 @@
 -- How far a body was read.
-use Rattle.std.specs.Prelude.{◌≡◌, ◌≢◌, ℕ, ◌+◌, ◌-◌, ◌≤◌, List, ◌++◌, length, drop}
+use Rattle.std.specs.Prelude.{◌≡◌, ◌≢◌, ℕ, ◌+◌, ◌-◌, ◌≤◌, List, [], ◌++◌, length, drop}
 use Rattle.http1.specs.declared.decode.Decoder.{Decoder}
-use Rattle.http1.specs.declared.decode.Decoder.TheVariants.{UntilClose}
+use Rattle.http1.specs.declared.decode.Decoder.TheVariants.{Length, Chunked, UntilClose}
+use Rattle.http1.specs.declared.chunked.ChunkedDecoder.{ChunkedDecoder}
 use Rattle.http1.specs.Body.{Body}
+use Rattle.http1.specs.ChunkedDecoder.{HasNotFailed, run, run_result}
 use Rattle.http1.specs.Decoder.{decoder_for, Completes, with_front}
 use Rattle.http_exchange.specs.declared.start.Start.{Start}
 use Rattle.http_exchange.specs.Heads.{HasHead, limits}
 use Rattle.http_exchange.specs.Exchanges.{most_message}
 
+-- from the first decoder on these bytes were taken, and gave these bytes; where they are of chunks, none is malformed
+abbrev pub HasTaken : Decoder → Decoder → List ℕ → List ℕ → Type 0
+HasTaken (Length left) now taken got = (n : ℕ) × (now ≡ Length n)
+HasTaken (Chunked chunks most) now taken got = (next : ChunkedDecoder) × (now ≡ Chunked next most) × (run chunks taken ≡ run_result next got []) × HasNotFailed next
+HasTaken UntilClose now taken got = now ≡ UntilClose
+
 -- From the first decoder on the whole was read up to what is left, and gave these bytes: what completes the one completes
 -- the other, whatever follows.
 pub record Goes (first now : Decoder) (whole left got : List ℕ) : Type 0 where
   pub bounded : now ≢ UntilClose
+  pub taken : List ℕ
+  pub split : whole ≡ taken ++ left
+  pub has_taken : HasTaken first now taken got
   pub back : (more : List ℕ) (body : Body) (rest : List ℕ) → Completes now (left ++ more) body rest → Completes first (whole ++ more) (with_front got body) rest
   pub forth : (more : List ℕ) (body : Body) (rest : List ℕ) → Completes first (whole ++ more) body rest → (tail : Body) × (body ≡ with_front got tail) × Completes now (left ++ more) tail rest
 

@@ -3,7 +3,7 @@ use Rattle.std.specs.Prelude.{◌≡◌, ℕ, ◌+◌, ◌<◌, ◌≤◌, ◌�
 use Rattle.http_exchange.specs.declared.connection.Connection.{Ghosts}
 use Rattle.http_exchange.specs.declared.fault.ExchangeFault.{ExchangeFault}
 use Rattle.http_exchange.specs.declared.fault.ExchangeFault.TheVariants as faults
-use Rattle.http_exchange.specs.Answers.{IsAnswer, HasNoAnswer, NeverAnswers}
+use Rattle.http_exchange.specs.Answers.{IsAnswer, IsAwaited, NeverAnswers}
 
 -- the longest that connecting, a write or a read waits: fifteen seconds, since etcd waits ten for a quorum
 abbrev pub call_time : ℕ
@@ -18,10 +18,14 @@ pub data HasWritten {C : Type 0} (g : Ghosts C) (first : C) (whole : List ℕ) :
   none_written : HasWritten g first whole first 0
   more_written : (middle last : C) (count n : ℕ) → HasWritten g first whole middle count → g.writes middle last (drop count whole) n → 0 < n → HasWritten g first whole last (count + n)
 
--- these bytes were read, by some calls, each made only while the bytes before it had no answer
+-- more is read where an answer is awaited, and the message is not too long yet
+abbrev pub IsReadOn : List ℕ → Type 0
+IsReadOn bytes = IsAwaited bytes × (length bytes < most_message)
+
+-- these bytes were read, by some calls, each made only while an answer was awaited behind the bytes before it
 pub data HasRead {C : Type 0} (g : Ghosts C) (first : C) : C → List ℕ → Type 0 where
   none_read : HasRead g first first []
-  more_read : (middle last : C) (bytes piece : List ℕ) (room : ℕ) → HasRead g first middle bytes → HasNoAnswer bytes → g.reads middle last room piece → 0 < length piece → HasRead g first last (bytes ++ piece)
+  more_read : (middle last : C) (bytes piece : List ℕ) (room : ℕ) → HasRead g first middle bytes → IsReadOn bytes → g.reads middle last room piece → 0 < length piece → HasRead g first last (bytes ++ piece)
 
 module _ {C : Type 0} (g : Ghosts C) where
   -- a connection that is kept was looked at, and it can be used or not; or none is kept, and none can be used
@@ -43,24 +47,25 @@ module _ {C : Type 0} (g : Ghosts C) where
     pub is_ready : IsReady kept old ready
     pub written : HasWritten g ready request new (length request)
 
-  -- Where these bytes came, nothing more is read for this fault. They have no answer, unless memory ran out, which may be
-  -- after one more read.
+  -- Where these bytes came, nothing more is read for this fault: a read failed or found the end, where one was to be made;
+  -- or no answer can come; or one is awaited, and the message is too long; or memory ran out, maybe after one more read.
   abbrev pub Stops : List ℕ → C → C → ExchangeFault → Type 0
   Stops bytes old new faults.Open = ⊥
   Stops bytes old new faults.Write = ⊥
-  Stops bytes old new faults.Read = HasNoAnswer bytes × g.fails old new
-  Stops bytes old new faults.Ended = HasNoAnswer bytes × ((room : ℕ) × (0 < room) × g.reads old new room [])
+  Stops bytes old new faults.Read = IsReadOn bytes × g.fails old new
+  Stops bytes old new faults.Ended = IsReadOn bytes × ((room : ℕ) × (0 < room) × g.reads old new room [])
   Stops bytes old new faults.BadMessage = NeverAnswers bytes × (new ≡ old)
-  Stops bytes old new faults.TooLong = HasNoAnswer bytes × ((most_message ≤ length bytes) × (new ≡ old))
-  Stops bytes old new faults.NoMemory = (new ≡ old) ⊎ ((room : ℕ) × (piece : List ℕ) × g.reads old new room piece)
+  Stops bytes old new faults.TooLong = IsAwaited bytes × ((most_message ≤ length bytes) × (new ≡ old))
+  Stops bytes old new faults.NoMemory = (new ≡ old) ⊎ (IsReadOn bytes × ((room : ℕ) × (piece : List ℕ) × g.reads old new room piece))
 
-  -- one call of `read` gave some bytes, which came behind those before
+  -- one call of `read` gave some bytes, which came behind those before, where the message was not too long yet
   pub record ReadsMore (old new : C) (before after : List ℕ) : Type 0 where
     pub room : ℕ
     pub piece : List ℕ
     pub grown : after ≡ before ++ piece
     pub some : 0 < length piece
     pub reads : g.reads old new room piece
+    pub short : length before < most_message
 
   -- some bytes were read, and then nothing more for this fault
   pub record ReadFails (first last : C) (fault : ExchangeFault) : Type 0 where

@@ -6,8 +6,13 @@
 //! these calls the connection gets, in their order. One that is kept is looked at first, without
 //! waiting; if it cannot be used, or none is kept, it is opened anew, with a limit of fifteen
 //! seconds for the connecting and for each call from then on (`IsReady`). Then the request is
-//! written whole, once (`IsSent`), and bytes are read only while those before them have no answer
-//! (`HasRead`).
+//! written whole, once (`IsSent`), and bytes are read only while those before them await an answer
+//! (`IsAwaited`) and are fewer than 32 MiB and 64 KiB (`HasRead`).
+//!
+//! They await one while they are the beginning of a head, of fewer than 16 KiB (`AwaitsHead`);
+//! while some bytes can follow that make an answer of them (`MayAnswer`); and while the chunks of
+//! the body are whole, and the fields behind these have begun, of fewer than 16 KiB
+//! (`AwaitsFields`).
 //!
 //! An answer has a head of at most 16 KiB and 64 fields with a status of 200 or more, and a body
 //! whose length is given or that comes in chunks, with at most 64 fields behind it (`IsAnswer`). It
@@ -20,14 +25,16 @@
 //!
 //! - `Open`: the connection was not made;
 //! - `Write`: a write failed or took no byte;
-//! - `Read`: a read failed;
-//! - `Ended`: the connection ended where the bytes have no answer;
+//! - `Read`: a read failed, where an answer was awaited;
+//! - `Ended`: the connection ended where one was awaited;
 //! - `BadMessage`: no bytes can follow that make an answer of them (`NeverAnswers`);
-//! - `TooLong`: they have no answer and are at least 32 MiB and 64 KiB;
+//! - `TooLong`: one is awaited, and they are at least 32 MiB and 64 KiB;
 //! - `NoMemory`: memory ran out while they were read.
 //!
 //! So whatever the fault is, no byte of the request was written twice. No contract says that a
-//! connection keeps its limits.
+//! connection keeps its limits, nor which of its calls failed. A head that has begun may be read to
+//! its end, or to 16 KiB, even where it can only become one that is refused, for its status, its
+//! framing or the number of its fields; and so may the fields behind a body.
 #![tactic(auto)]
 
 mod connection;

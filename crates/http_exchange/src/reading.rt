@@ -5,7 +5,7 @@ ghost use Rattle.httparse.specs.Spans.{IsResponseOf, IsResponseWithin};
 ghost use Rattle.http_exchange.specs.Bodies.{IsAt, bytes_left};
 ghost use Rattle.http_exchange.specs.Exchanges.{HasRead, IsRead, ReadFails, ReadsMore, Stops, most_message};
 ghost use Rattle.http_exchange.specs.Heads.{HasHead, most_fields};
-ghost use Rattle.http_exchange.specs.Answers.{HasNoAnswer, IsAnswer, NeverAnswers};
+ghost use Rattle.http_exchange.specs.Answers.{IsAnswer, IsAwaited, NeverAnswers};
 
 use crate::connection::Connection;
 use crate::fault::ExchangeFault;
@@ -49,7 +49,7 @@ struct Part {
 // Appends further bytes of the connection to the buffer.
 #[tactic(auto, using(crate::proofs::CallLemmas::reads_more, crate::proofs::CallLemmas::reads_the_end, crate::proofs::CallLemmas::reads_without_memory))]
 fn read_more<C: Connection>(connection: &mut C, buffer: &mut Vec<u8>) -> Result<(), ExchangeFault>
-    requires { HasNoAnswer buffer.old.items }
+    requires { IsAwaited buffer.old.items }
     ensures ok { OnOk result (ReadsMore C.Connection connection.old connection.new buffer.old.items buffer.new.items) }
     ensures few { OnOk result (length buffer.new.items ≤ most_message) }
     ensures err { IfErr result (Stops C.Connection buffer.old.items connection.old connection.new) }
@@ -94,7 +94,7 @@ fn start_of(buffer: &[u8], spans: &[HeaderSpan], head: ResponseSpans) -> Option<
 }
 
 // Reads until the buffer has the head of an answer, or cannot have one.
-#[tactic(auto, using(crate::proofs::HeadLemmas::no_response_nil, crate::proofs::HeadLemmas::no_answer_without_head, crate::proofs::HeadLemmas::never_overflowing, crate::proofs::HeadLemmas::never_long, crate::proofs::CallLemmas::read_on, crate::proofs::CallLemmas::reading_fails, crate::proofs::CallLemmas::never_read))]
+#[tactic(auto, using(crate::proofs::HeadLemmas::no_response_nil, crate::proofs::HeadLemmas::awaits_head, crate::proofs::HeadLemmas::never_overflowing, crate::proofs::HeadLemmas::never_long, crate::proofs::CallLemmas::read_on, crate::proofs::CallLemmas::reading_fails, crate::proofs::CallLemmas::never_read))]
 fn read_head<C: Connection>(
     connection: &mut C,
     buffer: &mut Vec<u8>,

@@ -1,5 +1,5 @@
 use Rattle.std.proofs.Common.{◌≤◌, ◌-◌, length}
-use Rattle.httparse.specs.Grammar.{HasNoResponse}
+use Rattle.httparse.specs.Grammar.{HasNoResponse, MayBecomeResponse}
 use Rattle.http_exchange.specs.Exchanges.{HasRead, most_message}
 use Rattle.http_exchange.proofs.reading.read_head.Given as goal
 
@@ -7,6 +7,7 @@ abbrev pub invariant-parts : goal.invariant-parts
 invariant-parts g l = record {
   read : HasRead g.C.Connection l.initial.connection l.connection l.buffer.items;
   none : HasNoResponse l.buffer.items;
+  begun : MayBecomeResponse l.buffer.items;
   few : length l.buffer.items ≤ most_message;
 }
 
