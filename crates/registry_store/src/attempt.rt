@@ -86,6 +86,9 @@ fn write<S: Alter, W: Witness>(
         → OnOk result (GoesOn (state S.Store tx.old.conn.now) (state S.Store tx.new.conn.now)) }
     ensures unseen { IfOk result (λ it. OnErr it (summary.new ≡ summary.old)) }
     ensures heard { Hears W.saw W.missed witness.old witness.new request.now (act_text deed.now.act) result }
+    // A witness that was asked could see the rows.
+    ensures late { HasCleanDisk (state S.Store tx.new.conn.now) → IsTrue (state S.Store tx.old.conn.now).in_transaction → IsTrue (state S.Store tx.old.conn.now).is_open
+        → OnErr result ((witness.new ≡ witness.old) ⊎ GoesOn (state S.Store tx.old.conn.now) (state S.Store tx.new.conn.now)) }
     ensures kind { result ≢ Err TableFault.Foreign }
     ensures survives { CommitsNothing (state S.Store tx.old.conn.now) (state S.Store tx.new.conn.now) }
 {
