@@ -1,7 +1,7 @@
 #!/usr/bin/env python3
 """Compares man/usbreg.1 with the help of `usbreg`.
 
-The page must have exactly the version and the commands of `usbreg --help`, and for each command the usage line, the
+The page must have exactly the version and the commands of `usbreg --help`, and for each command the usage lines, the
 arguments and the options with their values of its own help. Its forms of requests must be those of docs/requests.md,
 and its requests, their replies and its founding file those of the examples. `usbreg --version` must name the logic of
 the kit.
@@ -22,19 +22,20 @@ COMMON = {"-h, --help", "--verbose", "-V, --version"}
 
 
 def help_of_command(usbreg, command):
-    """Returns its usage line, and its arguments and options. The page has STORE for the help's <STORE>, and usbreg for
-    the name of the file that was run."""
-    text = re.sub(r"<(\w+)>", r"\1", done([usbreg, command, "--help"]).decode())
-    usage = re.search(r"^Usage: \S+ (.*)$", text, re.MULTILINE)[1]
-    return f"usbreg {usage}", {*section(text, "Arguments"), *section(text, "Options")} - COMMON
+    """Returns its usage lines, and its arguments and options. The page has STORE for the help's <STORE>, RECORD for an
+    argument [RECORD], and usbreg for the name of the file that was run."""
+    text = re.sub(r"<(\w+)>|(?<=^  )\[(\w+)\]", r"\1\2", done([usbreg, command, "--help"]).decode(), flags=re.MULTILINE)
+    usages = re.search(r"^Usage: (.*(?:\n {7}.*)*)", text, re.MULTILINE)[1].splitlines()
+    usages = [re.sub(r"^\S+", "usbreg", it.strip()) for it in usages]
+    return usages, {*section(text, "Arguments"), *section(text, "Options")} - COMMON
 
 
 def helped(usbreg):
     """Returns the help of each command, and of the program under no name."""
     whole = done([usbreg, "--help"]).decode()
-    told = {"": ("", COMMON | set(section(whole, "Options")))}
+    told = {"": ([], COMMON | set(section(whole, "Options")))}
     for command in section(whole, "Commands"):
-        told[command] = ("usbreg help [COMMAND]", set()) if command == "help" else help_of_command(usbreg, command)
+        told[command] = (["usbreg help [COMMAND]"], set()) if command == "help" else help_of_command(usbreg, command)
     return told
 
 
@@ -44,17 +45,17 @@ def plain(line):
 
 
 def documented(page):
-    """Returns the same for the man page: a command is a heading with its usage, and an argument or option a tag below it."""
+    """Returns the same for the man page: a command is a heading for each usage, and an argument or option a tag below them."""
     told, command = {}, None
     lines = page.splitlines()
     for line, below in zip(lines, lines[1:]):
         if line.startswith(".SS "):
             command = plain(line).split()[1]
-            told[command] = (plain(line), set())
+            told.setdefault(command, ([], set()))[0].append(plain(line))
         elif line.startswith(".SH "):
             command = "" if line == ".SH OPTIONS" else None
             if command == "":
-                told[command] = ("", set())
+                told[command] = ([], set())
         elif line == ".TP" and command is not None:
             told[command][1].add(plain(below).replace(" ,", ","))
     return told

@@ -21,8 +21,8 @@ from lib.usbreg import TOP, content, done, folder, program, run, same
 
 # The programs that a page needs beside `usbreg`.
 NEEDED = {"README.md": ("curl", "sqlite3"), "docs/http.md": ("curl",)}
-# `usbreg serve` does not end, and `usbreg share` needs etcd, so their own examples leave them out.
-LEFT_OUT = ("usbreg serve ", "usbreg share ")
+# `usbreg serve` does not end, and a log needs etcd, so the examples in the help leave these out.
+LEFT_OUT = ("usbreg serve ", "usbreg share ", "usbreg replay other.db --log ")
 STOPPED = "fault: file\n"
 
 

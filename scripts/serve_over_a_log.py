@@ -1,12 +1,12 @@
 #!/usr/bin/env python3
 """Serves two stores over one log in etcd, as two machines do, and compares what they answer and keep.
 
-The first store puts its record into the log (`usbreg share`), and the second one is made from that (`usbreg replay`). Eight
+The first store puts its record into the log (`usbreg share`), and the second one is made from that (`usbreg replay --log`). Eight
 clients send orders to both at once, and ask the other machine for what was accepted: an answer that is older than that
 ends the script. Then etcd is stopped for longer than a call waits: each message gets 503, and both servers go on once etcd does,
 with a repeat of the order under its key. Then `usbreg apply` and `usbreg import` act over the log with stores of their own: what
 they acknowledge is in the log, a repeat gets its reply, and while etcd stands they fail before they act. In the end all stores
-have the same record as the log, also one that `usbreg replay` makes of it, and replaying it again changes nothing.
+have the same record as the log, also one that `usbreg replay --log` makes of it, and replaying it again changes nothing.
 
 Further it tries a log without a line, of which no store is made, a store with another record, a store that is ahead of its log, an address where nobody listens and one that is
 none, each with the exit status and the line of its cause, and sharing a record a second time.
@@ -129,7 +129,7 @@ def act_alone(usbreg, room, members, stores):
 def replay_it(usbreg, room, members, record):
     """Makes a store from the log, and tries stores that do not go on with it."""
     address = members.address(0, NAME)
-    replay = [usbreg, "replay", f"{room}/made.db", address]
+    replay = [usbreg, "replay", f"{room}/made.db", "--log", address]
     for again in range(2):
         same(f"replaying the log, {again} times before", done(replay), b"")
         same("the record of the store that was made", done([usbreg, "history", f"{room}/made.db"]).decode(), record)
@@ -137,11 +137,11 @@ def replay_it(usbreg, room, members, record):
     short = members.address(0, "short")
     done([usbreg, "found", f"{room}/short.db", FOUNDING])
     done([usbreg, "share", f"{room}/short.db", "--log", short])
-    fails([usbreg, "replay", f"{room}/made.db", short, "--verbose"], 1, f"fault: log\nusbreg: {short}: has fewer lines than the record of the store\n")
+    fails([usbreg, "replay", f"{room}/made.db", "--log", short, "--verbose"], 1, f"fault: log\nusbreg: {short}: has fewer lines than the record of the store\n")
     done([usbreg, "found", f"{room}/other.db", write(f"{room}/other.toml", OTHER)])
-    fails([usbreg, "replay", f"{room}/other.db", address, "--verbose"], 1, f"fault: log\nusbreg: {address}: has another record than the store, from line 0 on\n")
+    fails([usbreg, "replay", f"{room}/other.db", "--log", address, "--verbose"], 1, f"fault: log\nusbreg: {address}: has another record than the store, from line 0 on\n")
     same("the record of a store that is refused", done([usbreg, "history", f"{room}/other.db"]).count(b"\n"), 1)
-    done([usbreg, "replay", f"{room}/short.db", address])
+    done([usbreg, "replay", f"{room}/short.db", "--log", address])
     same("the record of a store that was brought up to date", done([usbreg, "history", f"{room}/short.db"]).decode(), record)
 
 
@@ -155,11 +155,11 @@ def main():
         members.wait(0)
         address = members.address(0, NAME)
         stores = [f"{room}/{name}.db" for name in ("a", "b")]
-        fails([usbreg, "replay", stores[1], address, "--verbose"], 1, f"fault: log\nusbreg: {address}: has no line\n")
+        fails([usbreg, "replay", stores[1], "--log", address, "--verbose"], 1, f"fault: log\nusbreg: {address}: has no line\n")
         same("a store of a log without a line", os.path.exists(stores[1]), False)
         done([usbreg, "found", stores[0], FOUNDING])
         same("sharing", done([usbreg, "share", stores[0], "--log", address]), b"")
-        same("replaying", done([usbreg, "replay", stores[1], address]), b"")
+        same("replaying", done([usbreg, "replay", stores[1], "--log", address]), b"")
         with served(usbreg, stores[0], address) as one, served(usbreg, stores[1], address) as two:
             ports = [one.up().port, two.up().port]
             beside_each_other(ports)

@@ -37,7 +37,7 @@ none_or [] b = refl
 none_or (k ∷ ks) b = refl
 
 -- the first faults are empty if x is true, and the second if y is true
-both_same : (a b : Kinds) (x y : Bool) → no_kind a ≡ x → no_kind b ≡ y → no_kind (or_else a b) ≡ (x && y)
+pub both_same : (a b : Kinds) (x y : Bool) → no_kind a ≡ x → no_kind b ≡ y → no_kind (or_else a b) ≡ (x && y)
 both_same a b x y e f = none_or a b ∙ ap₂ (λ (p q : Bool). p && q) e f
 
 none_if : (t : Bool) (k : ErrorKind) → no_kind (cond t [] (k ∷ [])) ≡ t
@@ -65,7 +65,7 @@ not_and : (a b : Bool) → b ≡ false → (a && b) ≡ false
 not_and true b e = e
 not_and false b e = refl
 
-parts_of : (a b : Bool) → (a && b) ≡ true → (a ≡ true) × (b ≡ true)
+pub parts_of : (a b : Bool) → (a && b) ≡ true → (a ≡ true) × (b ≡ true)
 parts_of true b e = (refl, e)
 parts_of false b e = absurd (true≢false (sym e))
 

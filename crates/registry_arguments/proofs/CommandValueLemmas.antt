@@ -8,12 +8,13 @@ use Rattle.clap.specs.ValueTests.{is_unsigned_in}
 use Rattle.clap.specs.Walk.{Row, Text, answers_to, first_of, rows_after}
 use Rattle.clap.specs.Simple.{argument_words, built, built_leaf, help_shape}
 use Rattle.clap.specs.Kinds.{value_kinds}
+use Rattle.clap.specs.Faults.{fault_of}
 use Rattle.clap.specs.declared.builder.value_parser.ValueParser.TheVariants as parser
 use Rattle.clap.specs.declared.error.kind.ErrorKind.TheVariants as kind
 use Rattle.registry_arguments.specs.declared.command.Command.{Command}
 use Rattle.registry_arguments.specs.declared.command.Command.TheVariants as command
-use Rattle.registry_arguments.specs.Commands.{apply_app, apply_in, asked_by, bare_app, check_app, check_in, chosen, command_of, export_app, export_in, faults_of, found_app, found_in, head_app, head_in, import_app, import_in, replay_in, history_in, lookup_app, lookup_in, most_connections, number_if_given, number_in, history_app, named, replay_app, report_app, report_in, serve_app, serve_in, share_app, share_in, trial_app, usbreg_app}
-use Rattle.registry_arguments.proofs.ClapLevelLemmas.{HasValues, first_given, first_passes, level_values}
+use Rattle.registry_arguments.specs.Commands.{apply_app, apply_in, asked_by, bare_app, check_app, check_in, chosen, command_of, export_app, export_in, faults_of, found_app, found_in, head_app, head_in, import_app, import_in, replay_in, history_in, lookup_app, lookup_in, most_connections, number_if_given, number_in, history_app, named, replay_app, replayed, report_app, report_in, serve_app, serve_in, share_app, share_in, source_faults, trial_app, usbreg_app}
+use Rattle.registry_arguments.proofs.ClapLevelLemmas.{HasValues, first_given, first_passes, level_values, or_else_none}
 use Rattle.registry_arguments.proofs.EnteredLemmas.{Asks, asked}
 
 -- without a subcommand the trial is asked for
@@ -66,8 +67,15 @@ apply_there rows store file answered = rw ((value_of _ store).1, (value_of _ fil
 import_there : (rows : List Row) → Has rows (codes "store") → Has rows (codes "list") → Has rows (codes "caller") → Has rows (codes "key") → Has rows (codes "org") → IsSome (import_in rows)
 import_there rows store list caller key org = rw ((value_of _ store).1, (value_of _ list).1, (value_of _ caller).1, (value_of _ key).1, (value_of _ org).1) refl
 
-replay_there : (rows : List Row) → Has rows (codes "store") → Has rows (codes "record") → IsSome (replay_in rows)
-replay_there rows store record_path = rw ((value_of _ store).1, (value_of _ record_path).1) refl
+-- with one source there is a command
+replayed_there : (store : Text) (record_path log : Option Text) → source_faults record_path log ≡ [] → IsSome (replayed store record_path log)
+replayed_there store None None once = absurd cc
+replayed_there store None (Some log) once = refl
+replayed_there store (Some record_path) None once = refl
+replayed_there store (Some record_path) (Some log) once = absurd cc
+
+replay_there : (rows : List Row) → Has rows (codes "store") → source_faults (first_of (codes "record") rows) (first_of (codes "log") rows) ≡ [] → IsSome (replay_in rows)
+replay_there rows store once = rw ((value_of _ store).1) (replayed_there (value_of _ store).0 (first_of (codes "record") rows) (first_of (codes "log") rows) once)
 
 serve_there : (rows : List Row) → Has rows (codes "store") → (port : (text : Text) × (first_of (codes "port") rows ≡ Some text)) → IsSome (number_in 1 65535 port.0)
     → IsSome (number_if_given 0 most_connections (first_of (codes "count") rows)) → IsSome (serve_in rows)
@@ -98,11 +106,11 @@ lookup_there rows list vid pid = rw ((value_of _ list).1, (value_of _ vid).1, (v
 
 trial_asks : Asks (built_leaf trial_app.top)
 unfolding trial_app
-trial_asks name words met free none = refl
+trial_asks name words met free none once = refl
 
 found_asks : Asks (built_leaf found_app.top)
 unfolding found_app
-found_asks name words met free none =
+found_asks name words met free none once =
     let s = built_leaf found_app.top in
     let rows = rows_after s.rules [] words in
     let has : HasValues s rows = level_values s refl ((refl, refl, inl (refl, inl refl)), ((refl, refl, inl (refl, inl refl)), ((refl, refl, inl (refl, inr (codes "true", refl))), ((refl, refl, inl (refl, inr (codes "true", refl))), ((refl, refl, inr (λ values rows e. absurd cc)), tt))))) words none in
@@ -111,7 +119,7 @@ found_asks name words met free none =
 
 apply_asks : Asks (built_leaf apply_app.top)
 unfolding apply_app
-apply_asks name words met free none =
+apply_asks name words met free none once =
     let s = built_leaf apply_app.top in
     let rows = rows_after s.rules [] words in
     let has : HasValues s rows = level_values s refl ((refl, refl, inl (refl, inl refl)), ((refl, refl, inl (refl, inl refl)), ((refl, refl, inl (refl, inl refl)), ((refl, refl, inl (refl, inl refl)), ((refl, refl, inl (refl, inr (codes "true", refl))), ((refl, refl, inr (λ values rows e. absurd cc)), tt)))))) words none in
@@ -121,7 +129,7 @@ apply_asks name words met free none =
 
 import_asks : Asks (built_leaf import_app.top)
 unfolding import_app
-import_asks name words met free none =
+import_asks name words met free none once =
     let s = built_leaf import_app.top in
     let rows = rows_after s.rules [] words in
     let has : HasValues s rows = level_values s refl ((refl, refl, inl (refl, inl refl)), ((refl, refl, inl (refl, inl refl)), ((refl, refl, inl (refl, inl refl)), ((refl, refl, inl (refl, inl refl)), ((refl, refl, inl (refl, inl refl)), ((refl, refl, inl (refl, inl refl)), ((refl, refl, inl (refl, inr (codes "true", refl))), ((refl, refl, inl (refl, inl refl)), ((refl, refl, inl (refl, inr (codes "true", refl))), ((refl, refl, inr (λ values rows e. absurd cc)), tt)))))))))) words none in
@@ -130,16 +138,15 @@ import_asks name words met free none =
 
 replay_asks : Asks (built_leaf replay_app.top)
 unfolding replay_app
-replay_asks name words met free none =
+replay_asks name words met free none once =
     let s = built_leaf replay_app.top in
     let rows = rows_after s.rules [] words in
-    let has : HasValues s rows = level_values s refl ((refl, refl, inl (refl, inl refl)), ((refl, refl, inl (refl, inl refl)), ((refl, refl, inl (refl, inr (codes "true", refl))), ((refl, refl, inr (λ values rows e. absurd cc)), tt)))) words none in
-    let given = λ (id : Text). first_given s rows id has.values in
-    replay_there rows (given (codes "store") (has.given.0 refl)) (given (codes "record") (has.given.1.0 refl))
+    let has : HasValues s rows = level_values s refl ((refl, refl, inl (refl, inl refl)), ((refl, refl, inl (refl, inl refl)), ((refl, refl, inl (refl, inl refl)), ((refl, refl, inl (refl, inr (codes "true", refl))), ((refl, refl, inr (λ values rows e. absurd cc)), tt))))) words none in
+    replay_there rows (first_given s rows (codes "store") has.values (has.given.0 refl)) once
 
 share_asks : Asks (built_leaf share_app.top)
 unfolding share_app
-share_asks name words met free none =
+share_asks name words met free none once =
     let s = built_leaf share_app.top in
     let rows = rows_after s.rules [] words in
     let has : HasValues s rows = level_values s refl ((refl, refl, inl (refl, inl refl)), ((refl, refl, inl (refl, inl refl)), ((refl, refl, inl (refl, inr (codes "true", refl))), ((refl, refl, inr (λ values rows e. absurd cc)), tt)))) words none in
@@ -148,7 +155,7 @@ share_asks name words met free none =
 
 serve_asks : Asks (built_leaf serve_app.top)
 unfolding serve_app
-serve_asks name words met free none =
+serve_asks name words met free none once =
     let s = built_leaf serve_app.top in
     let rows = rows_after s.rules [] words in
     let has : HasValues s rows = level_values s refl ((refl, refl, inl (refl, inl refl)), ((refl, refl, inl (refl, inl refl)), ((refl, refl, inl (refl, inl refl)), ((refl, refl, inl (refl, inl refl)), ((refl, refl, inl (refl, inr (codes "true", refl))), ((refl, refl, inr (λ values rows e. absurd cc)), tt)))))) words none in
@@ -160,7 +167,7 @@ serve_asks name words met free none =
 
 export_asks : Asks (built_leaf export_app.top)
 unfolding export_app
-export_asks name words met free none =
+export_asks name words met free none once =
     let s = built_leaf export_app.top in
     let rows = rows_after s.rules [] words in
     let has : HasValues s rows = level_values s refl ((refl, refl, inl (refl, inl refl)), ((refl, refl, inl (refl, inl refl)), ((refl, refl, inl (refl, inr (codes "true", refl))), ((refl, refl, inr (λ values rows e. absurd cc)), tt)))) words none in
@@ -169,7 +176,7 @@ export_asks name words met free none =
 
 report_asks : Asks (built_leaf report_app.top)
 unfolding report_app
-report_asks name words met free none =
+report_asks name words met free none once =
     let s = built_leaf report_app.top in
     let rows = rows_after s.rules [] words in
     let has : HasValues s rows = level_values s refl ((refl, refl, inl (refl, inl refl)), ((refl, refl, inl (refl, inl refl)), ((refl, refl, inl (refl, inr (codes "true", refl))), ((refl, refl, inr (λ values rows e. absurd cc)), tt)))) words none in
@@ -178,7 +185,7 @@ report_asks name words met free none =
 
 history_asks : Asks (built_leaf history_app.top)
 unfolding history_app
-history_asks name words met free none =
+history_asks name words met free none once =
     let s = built_leaf history_app.top in
     let rows = rows_after s.rules [] words in
     let has : HasValues s rows = level_values s refl ((refl, refl, inl (refl, inl refl)), ((refl, refl, inl (refl, inl refl)), ((refl, refl, inl (refl, inr (codes "true", refl))), ((refl, refl, inr (λ values rows e. absurd cc)), tt)))) words none in
@@ -188,7 +195,7 @@ history_asks name words met free none =
 
 head_asks : Asks (built_leaf head_app.top)
 unfolding head_app
-head_asks name words met free none =
+head_asks name words met free none once =
     let s = built_leaf head_app.top in
     let rows = rows_after s.rules [] words in
     let has : HasValues s rows = level_values s refl ((refl, refl, inl (refl, inl refl)), ((refl, refl, inl (refl, inr (codes "true", refl))), ((refl, refl, inr (λ values rows e. absurd cc)), tt))) words none in
@@ -197,7 +204,7 @@ head_asks name words met free none =
 
 check_asks : Asks (built_leaf check_app.top)
 unfolding check_app
-check_asks name words met free none =
+check_asks name words met free none once =
     let s = built_leaf check_app.top in
     let rows = rows_after s.rules [] words in
     let has : HasValues s rows = level_values s refl ((refl, refl, inl (refl, inl refl)), ((refl, refl, inl (refl, inr (codes "true", refl))), ((refl, refl, inr (λ values rows e. absurd cc)), tt))) words none in
@@ -206,7 +213,7 @@ check_asks name words met free none =
 
 lookup_asks : Asks (built_leaf lookup_app.top)
 unfolding lookup_app
-lookup_asks name words met free none =
+lookup_asks name words met free none once =
     let s = built_leaf lookup_app.top in
     let rows = rows_after s.rules [] words in
     let has : HasValues s rows = level_values s refl ((refl, refl, inl (refl, inl refl)), ((refl, refl, inl (refl, inl refl)), ((refl, refl, inl (refl, inl refl)), ((refl, refl, inl (refl, inr (codes "true", refl))), ((refl, refl, inr (λ values rows e. absurd cc)), tt))))) words none in
@@ -222,12 +229,13 @@ not_help name met free = go (bytes_eq (codes "help") name) refl met
     go false is e = true≢false (sym e)
 
 help_asks : Asks (built_leaf help_shape)
-help_asks name words met free none = absurd (not_help name met free)
+help_asks name words met free none once = absurd (not_help name met free)
 
 -- arguments without a fault ask for a command
 pub asks_for_a_command : (words : List Text) → faults_of words ≡ [] → IsSome (command_of words)
 unfolding faults_of chosen bare_app trial_app found_app apply_app import_app replay_app share_app serve_app export_app report_app history_app head_app check_app lookup_app
 asks_for_a_command words none =
+    let parts = or_else_none (fault_of usbreg_app words) _ none in
     asked (built usbreg_app) refl
     (trial_asks, (found_asks, (apply_asks, (import_asks, (replay_asks, (share_asks, (serve_asks, (export_asks, (report_asks, (history_asks, (head_asks, (check_asks, (lookup_asks, (help_asks, tt))))))))))))))
-    (argument_words usbreg_app words) none
+    (argument_words usbreg_app words) parts.0 parts.1

@@ -10,7 +10,7 @@ use Rattle.clap.specs.Simple.{App, Shape, entered, label_of, names_of, rows_at}
 use Rattle.clap.specs.Kinds.{or_else}
 use Rattle.clap.specs.Faults.{built_fault, entered_fault, level_fault, other_fault, step_fault, turn_fault, walk_fault, word_fault}
 use Rattle.clap.specs.declared.error.kind.ErrorKind.TheVariants as kind
-use Rattle.registry_arguments.specs.Commands.{asked_by, named}
+use Rattle.registry_arguments.specs.Commands.{asked_by, named, replay_faults}
 use Rattle.registry_arguments.proofs.ClapLevelLemmas.{Every, every_found, or_else_none}
 
 -- ---- a walk without a fault does not stop at `help`
@@ -91,27 +91,27 @@ module _ (s : Shape) (enabled : s.disable_help_subcommand ≡ false) where
 
 -- ---- the subcommand that is entered
 
--- the arguments of this subcommand ask for a command, unless it is `help`
+-- the arguments of this subcommand ask for a command, unless it is `help`, or a replay without a source or with two
 abbrev pub Asks : Shape → Type 0
 Asks s = (name : Text) (words : List Text) → answers_to name (label_of s) ≡ true → bytes_eq name (codes "help") ≡ false → level_fault s [] nothing_held words false [] ≡ []
-    → IsSome (named s.name (rows_after s.rules [] words))
+    → replay_faults (Some (rows_at s words)) ≡ [] → IsSome (named s.name (rows_after s.rules [] words))
 
 pub asked : (a : App) → a.top.disable_help_subcommand ≡ false → Every Asks a.subs → (words : List Text) → built_fault a nothing_held words ≡ []
-    → IsSome (asked_by (entered a (stop_after a.top.rules (names_of a) words)))
+    → replay_faults (entered a (stop_after a.top.rules (names_of a) words)) ≡ [] → IsSome (asked_by (entered a (stop_after a.top.rules (names_of a) words)))
 unfolding asked_by
-asked a enabled each words none =
+asked a enabled each words none once =
     let stop = (walk a.top.rules (names_of a) nothing_held words).stopped in
     let top = or_else_none (walk_fault a.top (names_of a) (walk_from nothing_held) words) _ none in
     let below = (or_else_none (entered_fault a stop) _ top.1).0 in
-    go stop below (walk_stop a.top enabled (names_of a) (walk_from nothing_held) words top.0 tt)
+    go stop below (walk_stop a.top enabled (names_of a) (walk_from nothing_held) words top.0 tt) once
   where
-    go : (o : Option (Text × List Text)) → entered_fault a o ≡ [] → IsNoHelp o → IsSome (asked_by (entered a o))
-    go None e free = refl
-    go (Some p) e free = at (find (λ s. answers_to p.0 (label_of s)) a.subs) refl e
+    go : (o : Option (Text × List Text)) → entered_fault a o ≡ [] → IsNoHelp o → replay_faults (entered a o) ≡ [] → IsSome (asked_by (entered a o))
+    go None e free single = refl
+    go (Some p) e free single = at (find (λ s. answers_to p.0 (label_of s)) a.subs) refl e single
       where
         at : (o : Option Shape) → find (λ s. answers_to p.0 (label_of s)) a.subs ≡ o → option_map_or (λ s. level_fault s [] nothing_held p.1 false []) o [] ≡ []
-            → IsSome (asked_by (option_map (λ s. rows_at s p.1) o))
-        at None is e2 = refl
-        at (Some s) is e2 =
+            → replay_faults (option_map (λ s. rows_at s p.1) o) ≡ [] → IsSome (asked_by (option_map (λ s. rows_at s p.1) o))
+        at None is e2 single2 = refl
+        at (Some s) is e2 single2 =
             let found = every_found Asks (λ s. answers_to p.0 (label_of s)) a.subs s each is in
-            found.0 p.0 p.1 found.1 free e2
+            found.0 p.0 p.1 found.1 free e2 single2

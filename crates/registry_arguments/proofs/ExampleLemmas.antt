@@ -3,12 +3,12 @@ use Rattle.std.proofs.Common.{◌≡◌, List, [], ◌∷◌, codes, true, false
 use Rattle.std.specs.Prelude.{⊤}
 use Rattle.clap.specs.Words.{Text}
 use Rattle.clap.proofs.OnLiterals.{clap_on_literals}
-use Rattle.registry_arguments.specs.Commands.{accepts, apply_app, asked_by, bare_app, check_app, chosen, command_of, export_app, found_app, head_app, import_app, is_url, is_verbose, lookup_app, number_in, history_app, replay_app, report_app, serve_app, share_app, trial_app, verbose_by}
+use Rattle.registry_arguments.specs.Commands.{accepts, apply_app, asked_by, bare_app, check_app, chosen, command_of, export_app, found_app, head_app, import_app, is_verbose, lookup_app, number_in, history_app, replay_app, report_app, serve_app, share_app, trial_app, verbose_by}
 use Rattle.registry_arguments.specs.declared.command.Command.TheVariants as command
 
 -- unfolded by a proof to compute the command of literal arguments
 unfoldable on_literals : ⊤
-unfolding clap_on_literals bare_app trial_app found_app apply_app import_app replay_app share_app serve_app export_app report_app history_app head_app check_app lookup_app asked_by chosen number_in accepts verbose_by is_url
+unfolding clap_on_literals bare_app trial_app found_app apply_app import_app replay_app share_app serve_app export_app report_app history_app head_app check_app lookup_app asked_by chosen number_in accepts verbose_by
 on_literals = tt
 
 abbrev usbreg : List Text → List Text
@@ -52,9 +52,21 @@ pub replays : command_of (usbreg (codes "replay" ∷ codes "s" ∷ codes "-" ∷
 unfolding on_literals
 replays = refl
 
-pub replays_a_log : command_of (usbreg (codes "replay" ∷ codes "s" ∷ codes "http://h:1/n" ∷ [])) ≡ Some (command.ReplayShared (codes "s") (codes "http://h:1/n"))
+pub replays_a_path : command_of (usbreg (codes "replay" ∷ codes "s" ∷ codes "http://h:1/n" ∷ [])) ≡ Some (command.Replay (codes "s") (codes "http://h:1/n"))
+unfolding on_literals
+replays_a_path = refl
+
+pub replays_a_log : command_of (usbreg (codes "replay" ∷ codes "s" ∷ codes "--log" ∷ codes "u" ∷ [])) ≡ Some (command.ReplayShared (codes "s") (codes "u"))
 unfolding on_literals
 replays_a_log = refl
+
+pub replays_a_log_or_a_record : accepts (usbreg (codes "replay" ∷ codes "s" ∷ codes "r" ∷ codes "--log=u" ∷ [])) ≡ false
+unfolding on_literals
+replays_a_log_or_a_record = refl
+
+pub replays_something : accepts (usbreg (codes "replay" ∷ codes "s" ∷ [])) ≡ false
+unfolding on_literals
+replays_something = refl
 
 pub serves : command_of (usbreg (codes "serve" ∷ codes "s" ∷ codes "--port" ∷ codes "80" ∷ codes "--count=0" ∷ [])) ≡ Some (command.Serve (codes "s") 80 (Some 0))
 unfolding on_literals

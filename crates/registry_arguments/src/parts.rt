@@ -3,7 +3,7 @@
 ghost use Rattle.std.specs.Prelude.{◌≡◌, ◌∷◌, [], IfOk, Some, false, codes};
 ghost use Rattle.clap.specs.Words.{app_of, items_of, rule_of, new_app, with_rule, with_subcommand};
 ghost use Rattle.clap.specs.declared.builder.command.Command.TheViews.{out-Command};
-ghost use Rattle.registry_arguments.specs.Commands.{flag, most_connections, needed_option, numeric, option, positional};
+ghost use Rattle.registry_arguments.specs.Commands.{flag, most_connections, needed_option, numeric, option, optional, positional};
 
 use clap::builder::{ValueParser, ValueRange};
 use clap::{Arg, ArgAction, Command};
@@ -28,6 +28,15 @@ pub(crate) fn positional<'a>(alloc: Global, name: &'a str, shown: &'a str, help:
         .required(true)
         .value_name(shown)
         .help(help)
+}
+
+/// Returns a positional argument that may be left out.
+pub(crate) fn optional<'a>(alloc: Global, name: &'a str, shown: &'a str, help: &'a str) -> Arg<'a>
+    ensures rule { rule_of result ≡ optional name.entry.now }
+    ensures local { result.global ≡ false }
+    ensures texts { (result.help ≡ Some help.entry) × (items_of result.val_names ≡ shown.entry ∷ []) }
+{
+    Arg::new(alloc, name).value_name(shown).help(help)
 }
 
 /// Returns an optional `--name VALUE`.
@@ -92,6 +101,15 @@ pub(crate) fn subcommand<'a>(
     ensures texts { ((out-Command result).about ≡ Some about.entry) × ((out-Command result).after_help ≡ Some example.entry) }
 {
     Command::new(alloc, name).about(about).after_help(example)
+}
+
+/// Returns the subcommand with another usage than the one that `clap` makes of its arguments.
+pub(crate) fn with_usage<'a>(command: Command<'a>, usage: &'a str) -> Command<'a>
+    ensures app { app_of result ≡ app_of command.entry }
+    ensures local { (out-Command result).has_globals ≡ (out-Command command.entry).has_globals }
+    ensures text { (out-Command result).usage_str ≡ Some usage.entry }
+{
+    command.override_usage(usage)
 }
 
 pub(crate) fn with_arg<'a>(command: Command<'a>, arg: Arg<'a>) -> Result<Command<'a>, AllocError>

@@ -2,7 +2,7 @@
 
 ghost use Rattle.std.specs.Prelude.{◌≡◌, ◌≤◌, IfSome, option_copied, option_map};
 ghost use Rattle.clap.specs.Words.{first_of, found_of, rows_of};
-ghost use Rattle.registry_arguments.specs.Commands.{apply_in, check_in, export_in, found_in, head_in, history_in, import_in, is_check, is_url, lookup_in, named, number_if_given, number_in, replay_in, report_in, serve_in, share_in, texts};
+ghost use Rattle.registry_arguments.specs.Commands.{apply_in, check_in, export_in, found_in, head_in, history_in, import_in, is_check, lookup_in, named, number_if_given, number_in, replay_in, report_in, serve_in, share_in, texts};
 
 use crate::command::Command;
 use crate::parts::{MOST_CONNECTIONS, MOST_PASSED, MOST_PORT};
@@ -124,23 +124,15 @@ fn import_in<'a>(matches: &ArgMatches<'a>) -> Option<Command<&'a str>>
     }
 }
 
-/// Returns whether this is the URL of a log.
-#[tactic(auto, unfolding(crate::specs::Commands::is_url))]
-fn is_url(name: &str) -> bool
-    ensures { result ≡ is_url name.now }
-{
-    name.as_bytes().starts_with(b"http://")
-}
-
 fn replay_in<'a>(matches: &ArgMatches<'a>) -> Option<Command<&'a str>>
     ensures { option_map texts result ≡ replay_in (rows_of (found_of matches.now)) }
 {
     let store = value_of(matches, "store")?;
-    let record = value_of(matches, "record")?;
-    if is_url(record) {
-        return Some(Command::ReplayShared { store, log: record });
+    match (value_of(matches, "record"), value_of(matches, "log")) {
+        (Some(record), None) => Some(Command::Replay { store, record }),
+        (None, Some(log)) => Some(Command::ReplayShared { store, log }),
+        _ => None,
     }
-    Some(Command::Replay { store, record })
 }
 
 fn serve_in<'a>(matches: &ArgMatches<'a>) -> Option<Command<&'a str>>

@@ -6,8 +6,8 @@ ghost use Rattle.clap.specs.declared.builder.command.Command.TheViews.{out-Comma
 ghost use Rattle.registry_arguments.specs.Commands.{apply_app, found_app, import_app, replay_app, share_app, trial_app};
 
 use crate::parts::{
-    needed_option, numeric, option, positional, subcommand, with_arg, with_check, with_command,
-    with_log, with_sender, with_vendor, with_verbose,
+    needed_option, numeric, option, optional, positional, subcommand, with_arg, with_check,
+    with_command, with_log, with_sender, with_usage, with_vendor, with_verbose,
 };
 use clap::Command;
 use std::alloc::{AllocError, Global};
@@ -124,7 +124,7 @@ fn import<'a>(alloc: Global) -> Result<Command<'a>, AllocError>
 }
 
 #[tactic(auto, unfolding(crate::specs::Commands::replay_app))]
-fn replay<'a>(alloc: Global) -> Result<Command<'a>, AllocError>
+pub(crate) fn replay<'a>(alloc: Global) -> Result<Command<'a>, AllocError>
     ensures app { IfOk result (λ c. app_of c ≡ replay_app) }
     ensures local { IfOk result (λ c. (out-Command c).has_globals ≡ false) }
 {
@@ -133,22 +133,27 @@ fn replay<'a>(alloc: Global) -> Result<Command<'a>, AllocError>
         "replay",
         "Run the lines of a record over a registry, and compare the replies",
         "If the record begins with a founding, STORE may be a new file. Run again over a record that \
-         has grown, it goes on. The record in a log in etcd is called by the URL of the log, \
+         has grown, it goes on. With --log the record is the one in a log in etcd, \
          http://HOST:PORT/NAME.\n\nExample:\n  usbreg found numbers.db examples/founding.toml\n  usbreg \
          apply numbers.db examples/first.jsonl\n  usbreg history numbers.db > record.jsonl\n  usbreg \
-         replay copy.db record.jsonl",
+         replay copy.db record.jsonl\n  usbreg replay other.db --log http://127.0.0.1:2379/numbers",
+    );
+    let command = with_usage(
+        command,
+        "usbreg replay [OPTIONS] <STORE> <RECORD>\n       usbreg replay [OPTIONS] --log <URL> <STORE>",
     );
     let command = with_arg(
         command,
         positional(alloc, "store", "STORE", "The registry's file"),
     )?;
-    let record = positional(
+    let record = optional(
         alloc,
         "record",
         "RECORD",
-        "A record as history prints it, or the URL of a log; - for standard input",
+        "A record as history prints it; - for standard input",
     );
     let command = with_arg(command, record)?;
+    let command = with_log(alloc, command)?;
     with_verbose(alloc, command)
 }
 
