@@ -9,7 +9,7 @@ use Rattle.sqlite.specs.State.{HasCleanDisk}
 use Rattle.sqlite.specs.Store.{Ghosts}
 use Rattle.registry_rules.specs.declared.founding.Founding.{Founding}
 use Rattle.registry_rules.specs.History.{History, founded}
-use Rattle.registry_laws.specs.Machines.{HasValidFields, IsOfMachine, LeadsTo}
+use Rattle.registry_laws.specs.Machines.{HasValidFields}
 use Rattle.registry_tables.specs.Calls.{HasNoMeta}
 use Rattle.registry_tables.specs.Rows.{newest}
 use Rattle.registry_store.specs.declared.registry.Registry.{Registry}
@@ -23,7 +23,7 @@ use Rattle.registry_commands.specs.Replayed.{IsFoundOrOpen, IsLeftFound, connect
 use Rattle.shared_log.specs.Calls.{IsKept, LogLines}
 use Rattle.shared_log.specs.declared.log.Log as log
 use Rattle.shared_registry.specs.Cursors.{log_of}
-use Rattle.shared_registry.specs.Follows.{FollowsLater, HasFollowed, IsLeft}
+use Rattle.shared_registry.specs.Follows.{HasFollowed, IsLeft}
 use Rattle.shared_registry.specs.Lines.{fault_in}
 use Rattle.shared_registry.specs.declared.cursor.Cursor.{Cursor}
 use Rattle.shared_registry.specs.declared.stop.ShareStop.{ShareStop}
@@ -31,20 +31,20 @@ use Rattle.registry_program.specs.declared.host.Host as host
 use Rattle.registry_program.specs.declared.logs.Logs as logs
 use Rattle.registry_program.specs.Outputs.{earlier}
 use Rattle.registry_program.specs.SharedReplay.{IsReplayedShared, ReplaysJoined, ReplaysShared, ReplaysSharedOn, ReplaysSharedTo}
-use Rattle.registry_program.specs.SharedWhole.{AreMadeOver, IsLeftBehind, IsReplayedWholly, LeadsFilesOver, ReplaysSharedWholly, ReplaysSharedWhollyTo}
+use Rattle.registry_program.specs.SharedWhole.{AreMadeOver, IsLeftBehind, IsLeftOver, IsReplayedWholly, LeadsFilesOver, ReplaysSharedWholly, ReplaysSharedWhollyTo}
 use Rattle.registry_program.specs.Sharing.{IsFollowed, IsNotFollowed}
 use Rattle.registry_program.specs.Stores.{TheRegistry}
 use Rattle.registry_program.specs.Whole.{LeadsFilesTo, Stays}
 use Rattle.registry_program.proofs.ConnectionLemmas.{carried_in, unreplayed_in, used_in}
 use Rattle.registry_program.proofs.LeavesLemmas.{LeavesSome, leaves_itself}
-use Rattle.registry_program.proofs.SharedWholeLemmas.{left_following}
+use Rattle.registry_program.proofs.SharedWholeLemmas.{LeavesOver, following_over, left_over}
 use Rattle.registry_program.proofs.WholeLemmas.{kept_unless_failed}
 
--- the registry follows the log, unless a fault of it stopped that
-replayed_later : {S L : Type 0} {g : Ghosts S} (l : log.Ghosts L) (lines : L → LogLines) (c : Cursor L) (it_new : Registry S g) (c_new : Cursor L) (h : History) (end : Result (Unit {0}) ShareStop) → fault_in end ≡ None
-    → OnOk end (HasFollowed l lines c it_new c_new h) → IfErr end (IsLeft l lines c it_new c_new h) → FollowsLater l lines it_new c_new h
-replayed_later l lines c it_new c_new h (Ok done) none whole stopped = (whole.now, whole.leads, whole.follows)
-replayed_later l lines c it_new c_new h (Err stop) none whole stopped = left_following l lines it_new c_new c h stop none stopped
+-- what a registry leaves that acted on the lines of a log
+replayed_over : {S L : Type 0} {g : Ghosts S} (l : log.Ghosts L) (lines : L → LogLines) (c : Cursor L) (it_new : Registry S g) (c_new : Cursor L) (clean : HasCleanDisk (state_of it_new)) (h : History) (end : Result (Unit {0}) ShareStop)
+    → OnOk end (HasFollowed l lines c it_new c_new h) → IfErr end (IsLeft l lines c it_new c_new h) → LeavesOver l lines it_new c_new clean (fault_in end) h
+replayed_over l lines c it_new c_new clean h (Ok done) whole stopped = following_over l lines it_new c_new clean h None (whole.now, whole.leads, whole.follows)
+replayed_over l lines c it_new c_new clean h (Err stop) whole stopped = left_over l lines it_new c_new clean c h stop stopped
 
 module _ {H F I K : Type 0} (m : host.Ghosts H F I) (d : disk.Ghosts F) (k : logs.Ghosts H K) (l : log.Ghosts K) (founding : Founding) (address : List ℕ) where
   module _ (old new : H) (path : List ℕ) (ends : Ends) (on : IsReplayedShared m d k l founding address old new path ends) where
@@ -74,26 +74,24 @@ module _ {H F I K : Type 0} (m : host.Ghosts H F I) (d : disk.Ghosts F) (k : log
         was_clean : HasCleanDisk (state_of after) → HasCleanDisk (state_of it)
         was_clean clean = omega (arith, followed.taken.joins.untouched.survives.clean, followed.does.replays.endures.clean, clean)
 
-        later : fault_in followed.does.end ≡ None → (lines : K → LogLines) → IsKept l lines → (h : History) → HasValidFields h → Represents it h → HasCleanDisk (state_of after) → FollowsLater l lines after followed.does.left h
-        later sound lines kept h valid stands clean =
+        later : (lines : K → LogLines) → IsKept l lines → (h : History) → HasValidFields h → Represents it h → (clean : HasCleanDisk (state_of after))
+            → LeavesOver l lines after followed.does.left clean (fault_in followed.does.end) h
+        later lines kept h valid stands clean =
             let did = followed.does.replays in
             let mid : HasCleanDisk (state_of followed.middle) = omega (arith, did.endures.clean, clean) in
             let begins = followed.taken.joins.follows lines kept h stands valid mid in
-            replayed_later l lines followed.cursor after followed.does.left h followed.does.end sound (did.whole lines kept h begins clean) (did.stopped lines kept h begins clean)
+            replayed_over l lines followed.cursor after followed.does.left clean h followed.does.end (did.whole lines kept h begins clean) (did.stopped lines kept h begins clean)
 
-        held : fault_in followed.does.end ≡ None → LeadsFilesOver m d l old path on.closes.files followed.does.left
-        held sound lines kept h valid = goes_to was_clean h (λ x y. (y ≡ x) × LeadsTo h x × IsOfMachine (lines (log_of followed.does.left)) x) (λ stands clean.
-            let now = later sound lines kept h valid stands clean in
-            (now.0, now.0, (refl, now.1, now.2.of_machine), leaves_itself after now.0 now.2.represents clean))
+        held : LeadsFilesOver m d l old path on.closes.files followed.does.left (fault_in followed.does.end)
+        held lines kept h valid = goes_to was_clean h (IsLeftOver (lines (log_of followed.does.left)) (fault_in followed.does.end) h) (λ stands clean. later lines kept h valid stands clean)
 
-        made : fault_in followed.does.end ≡ None → HasNoMeta (file_state on.conn).now → AreMadeOver m d k l founding address old new path ends on.closes.files followed.does.left
-        made sound none lines kept valid honest =
+        made : HasNoMeta (file_state on.conn).now → AreMadeOver m d k l founding address old new path ends on.closes.files followed.does.left (fault_in followed.does.end)
+        made none lines kept valid honest =
             let clean_last : HasCleanDisk (file_state last) = closed_clean last on.closes.files on.closes.closed.closed honest in
             let clean : HasCleanDisk (state_of after) = subst (λ c. HasCleanDisk (file_state c)) is_of clean_last in
-            let now = later sound lines kept (founded founding) valid (is_there.founds none (was_clean clean)) clean in
-            let leaves : Leaves newest (file_state last) (IsEither now.0 now.0) =
-            subst (λ c. Leaves newest (file_state c) (IsEither now.0 now.0)) (sym is_of) (leaves_itself after now.0 now.2.represents clean) in
-            (now.0, now.1, now.2.of_machine, on.closes.closed.holds same newest now.0 now.0 (in_newest (file_state last) (IsEither now.0 now.0) (λ _. leaves)) honest)
+            let now = later lines kept (founded founding) valid (is_there.founds none (was_clean clean)) clean in
+            let leaves : Leaves newest (file_state last) (IsEither now.0 now.1) = subst (λ c. Leaves newest (file_state c) (IsEither now.0 now.1)) (sym is_of) now.3 in
+            (now.0, now.1, now.2, on.closes.closed.holds same newest now.0 now.1 (in_newest (file_state last) (IsEither now.0 now.1) (λ _. leaves)) honest)
 
         wholly : IsReplayedWholly m d k l founding address old new path ends
         wholly = record { on = on; it = it; after = after; left_is = left_is; followed = followed; holds = held; made = made }

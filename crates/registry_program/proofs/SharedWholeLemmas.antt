@@ -4,17 +4,16 @@ use Rattle.std.specs.Prelude.{Result, Ok, Err}
 use Rattle.sqlite_disk.specs.declared.Disk as disk
 use Rattle.sqlite.specs.State.{HasCleanDisk}
 use Rattle.sqlite.specs.Store.{Ghosts}
-use Rattle.byte_streams.specs.declared.streams.Broken.{Broken}
 use Rattle.byte_streams.specs.declared.streams.Sink as sink
 use Rattle.byte_streams.specs.declared.streams.Source as source
 use Rattle.registry_rules.specs.History.{History}
-use Rattle.registry_laws.specs.Machines.{IsOfMachine, LeadsTo}
+use Rattle.registry_laws.specs.Machines.{LeadsTo}
 use Rattle.registry_store.specs.Promise.{Represents, state_of}
 use Rattle.registry_store.specs.Queries.{IsUntouched}
+use Rattle.registry_store.specs.declared.fault.Fault.{Fault}
 use Rattle.registry_store.specs.declared.registry.Registry.{Registry}
 use Rattle.registry_commands.specs.Ends.{Ends}
 use Rattle.registry_desk.specs.Server.{Visit}
-use Rattle.registry_desk.specs.declared.serve.Served.{Served}
 use Rattle.registry_desk.specs.declared.server.Connections as connections
 use Rattle.shared_log.specs.Calls.{IsKept, LogLines}
 use Rattle.shared_log.specs.declared.log.Log as log
@@ -26,54 +25,50 @@ use Rattle.shared_registry.specs.declared.stop.ShareStop.{ShareStop}
 use Rattle.shared_registry.specs.declared.stop.ShareStop.TheVariants as stops
 use Rattle.shared_registry.proofs.LineLemmas.{leads_nowhere, leads_on}
 use Rattle.shared_desk.specs.Refusals.{fault_behind}
-use Rattle.shared_desk.specs.Server.{EndsOver, IsTurnOver, TurnsOver, stop_in}
+use Rattle.shared_desk.specs.Server.{EndsOver, stop_in}
 use Rattle.shared_desk.specs.Serving.{IsUnserved}
-use Rattle.shared_desk.proofs.ServeLemmas.{leads_by_message}
+use Rattle.shared_desk.proofs.TurnLemmas.{turns_lead}
 use Rattle.registry_program.specs.declared.host.Host as host
 use Rattle.registry_program.specs.declared.logs.Logs as logs
 use Rattle.registry_program.specs.Outputs.{earlier}
 use Rattle.registry_program.specs.Sharing.{IsFollowed, IsNotFollowed, IsServedOver, IsTakenUp, ServesJoined, ServesOver, ServesShared, Shares, SharesInto}
-use Rattle.registry_program.specs.SharedWhole.{IsServedFrom, LeadsFilesOver, ServesSharedWholly, SharesWholly}
+use Rattle.registry_program.specs.SharedWhole.{IsLeftOver, IsServedFrom, LeadsFilesOver, ServesSharedWholly, SharesWholly}
 use Rattle.registry_program.specs.Stores.{IsRunOver, TheRegistry}
 use Rattle.registry_program.specs.Whole.{IsCarriedOn, Stays}
-use Rattle.registry_program.proofs.LeavesLemmas.{leaves_itself, same_of_either, stayed}
+use Rattle.registry_program.proofs.LeavesLemmas.{LeavesSome, leaves_itself, same_of_either, stayed}
 use Rattle.registry_program.proofs.WholeLemmas.{carried, files_lead_to, runs_whole}
 
--- ---- where connections lead
+-- ---- what a registry leaves over a log
 
-module _ {L : Type 0} (l : log.Ghosts L) (lines : L → LogLines) where
-  turn_leads : (c : Cursor L) (h : History) (bytes text : List ℕ) (end : Result Served Broken) (c_new : Cursor L) (next : History)
-      → IsTurnOver l lines c h (record { bytes = bytes; text = text; end = end }) c_new next → LeadsTo h next
-  turn_leads c h bytes text (Ok served) c_new next (inl responded) =
-      let a = responded.answer in
-      leads_on h a.before next a.leads (subst (λ (x : History). LeadsTo a.before x) (sym a.next_is) (leads_by_message a.before responded.said))
-  turn_leads c h bytes text (Ok served) c_new next (inr passed) = passed.leads
-  turn_leads c h bytes text (Err broken) c_new next same = subst (λ (x : History). LeadsTo h x) (sym same.0) (leads_nowhere h)
+module _ {S : Type 0} {g : Ghosts S} {L : Type 0} (l : log.Ghosts L) (lines : L → LogLines) (it_new : Registry S g) (c_new : Cursor L) (clean : HasCleanDisk (state_of it_new)) where
+  -- such histories are left in the store
+  abbrev pub LeavesOver : Option Fault → History → Type 0
+  LeavesOver fault h = LeavesSome it_new (IsLeftOver (lines (log_of c_new)) fault h)
 
-  turns_lead : (c : Cursor L) (h : History) (visits : List Visit) (c_new : Cursor L) (next : History) → TurnsOver l lines c h visits c_new next → LeadsTo h next
-  turns_lead c h [] c_new next same = subst (λ (x : History). LeadsTo h x) (sym same.1) (leads_nowhere h)
-  turns_lead c h (visit ∷ visits) c_new next it =
-      leads_on h it.1 next (turn_leads c h visit.bytes visit.text visit.end it.0 it.1 it.2) (turns_lead it.0 it.1 visits c_new next it.4)
+  -- a registry that still follows its log
+  pub following_over : (h : History) (fault : Option Fault) → FollowsLater l lines it_new c_new h → LeavesOver fault h
+  following_over h None it = (it.0, it.0, (it.1, refl, it.2.of_machine, it.2.of_machine), leaves_itself it_new it.0 it.2.represents clean)
+  following_over h (Some fault) it = (it.0, it.0, (it.1, leads_nowhere it.0, it.2.of_machine, it.2.of_machine), leaves_itself it_new it.0 it.2.represents clean)
 
-module _ {S : Type 0} {g : Ghosts S} {L : Type 0} (l : log.Ghosts L) (lines : L → LogLines) (it_new : Registry S g) (c_new : Cursor L) where
-  -- the registry still follows its log, unless a fault of it ended that
-  pub left_following : (c : Cursor L) (h : History) (stop : ShareStop) → fault_of stop ≡ None → IsLeft l lines c it_new c_new h stop → FollowsLater l lines it_new c_new h
-  left_following c h (stops.Registry fault) none it = absurd (cc none)
-  left_following c h (stops.Log fault) none it = it.0
-  left_following c h (stops.OtherRecord n) none it = (it.0, it.1, it.2)
-  left_following c h stops.Ahead none it = absurd it
-  left_following c h stops.Empty none it = absurd it
-  left_following c h stops.Full none it = it.0
-  left_following c h stops.NoMemory none it = it
+  pub over_earlier : (h x : History) (fault : Option Fault) → LeadsTo h x → LeavesOver fault x → LeavesOver fault h
+  over_earlier h x fault leads it = (it.0, it.1, (leads_on h x it.0 leads it.2.0, it.2.1, it.2.2, it.2.3), it.3)
 
-  unserved_following : (c : Cursor L) (h : History) (bytes : List ℕ) (stop : ShareStop) → fault_of stop ≡ None → IsUnserved l lines c it_new c_new h bytes stop → FollowsLater l lines it_new c_new h
-  unserved_following c h bytes stop none it = elim it [ inl left ↦ left_following c h stop none left | inr failed ↦ failed.2 ]
+  pub left_over : (c : Cursor L) (h : History) (stop : ShareStop) → IsLeft l lines c it_new c_new h stop → LeavesOver (fault_of stop) h
+  left_over c h (stops.Registry fault) it = let two = it.1 in (two.last, two.next, (two.leads, two.goes_on, two.last_of, two.next_of), two.leaves)
+  left_over c h (stops.Log fault) it = following_over h None it.0
+  left_over c h (stops.OtherRecord n) it = following_over h None (it.0, it.1, it.2)
+  left_over c h stops.Ahead it = absurd it
+  left_over c h stops.Empty it = absurd it
+  left_over c h stops.Full it = following_over h None it.0
+  left_over c h stops.NoMemory it = following_over h None it
 
-  ends_following : (c : Cursor L) (h : History) (visits : List Visit) (stop : Option ShareStop) → fault_behind stop ≡ None → EndsOver l lines c it_new c_new h visits stop → FollowsLater l lines it_new c_new h
-  ends_following c h visits None none it = (it.0, turns_lead l lines c h visits c_new it.0 it.1, it.2)
-  ends_following c h visits (Some stop) none it =
-      let after = unserved_following it.place it.middle it.last.bytes stop none it.left in
-      (after.0, leads_on h it.middle after.0 (turns_lead l lines c h it.before it.place it.middle it.turns) after.1, after.2)
+  unserved_over : (c : Cursor L) (h : History) (bytes : List ℕ) (stop : ShareStop) → IsUnserved l lines c it_new c_new h bytes stop → LeavesOver (fault_of stop) h
+  unserved_over c h bytes stop it = elim it [ inl left ↦ left_over c h stop left | inr failed ↦ following_over h (fault_of stop) failed.2 ]
+
+  ends_over : (c : Cursor L) (h : History) (visits : List Visit) (stop : Option ShareStop) → EndsOver l lines c it_new c_new h visits stop → LeavesOver (fault_behind stop) h
+  ends_over c h visits None it = following_over h None (it.0, turns_lead l lines c h visits c_new it.0 it.1, it.2)
+  ends_over c h visits (Some stop) it =
+      over_earlier h it.middle (fault_of stop) (turns_lead l lines c h it.before it.place it.middle it.turns) (unserved_over it.place it.middle it.last.bytes stop it.left)
 
 -- ---- a command over a log
 
@@ -97,16 +92,15 @@ module _ {H F I K : Type 0} (m : host.Ghosts H F I) (d : disk.Ghosts F) (k : log
   not_followed (inl none) = stays_over none.2
   not_followed (inr it) = untouched_over it.3.joins.untouched
 
-  -- what was done over the log that the registry followed leads to a later history
-  pub leads_over : (found : H) (middle : TheRegistry m d) (cursor left : Cursor K) → IsTakenUp k l address over.opened found over.it middle (Ok cursor) → (HasCleanDisk (state_of over.after) → HasCleanDisk (state_of middle))
-      → ((lines : K → LogLines) → IsKept l lines → (h : History) → Follows l lines middle cursor h → HasCleanDisk (state_of over.after) → FollowsLater l lines over.after left h)
-      → LeadsFilesOver m d l old path over.closes.files left
-  leads_over found middle cursor left taken endures later lines kept h valid =
+  -- what was done over the log that the registry followed leads to later histories
+  pub leads_over : (found : H) (middle : TheRegistry m d) (cursor left : Cursor K) (fault : Option Fault) → IsTakenUp k l address over.opened found over.it middle (Ok cursor) → (HasCleanDisk (state_of over.after) → HasCleanDisk (state_of middle))
+      → ((lines : K → LogLines) → IsKept l lines → (h : History) → Follows l lines middle cursor h → (clean : HasCleanDisk (state_of over.after)) → LeavesOver l lines over.after left clean fault h)
+      → LeadsFilesOver m d l old path over.closes.files left fault
+  leads_over found middle cursor left fault taken endures later lines kept h valid =
       let before : HasCleanDisk (state_of over.after) → HasCleanDisk (state_of over.it) = λ clean. omega (arith, taken.joins.untouched.survives.clean, endures clean) in
-      files_lead_to m d old new path ends Does over same before h h (λ x y. (y ≡ x) × LeadsTo h x × IsOfMachine (lines (log_of left)) x) (λ x is stands clean.
+      files_lead_to m d old new path ends Does over same before h h (IsLeftOver (lines (log_of left)) fault h) (λ x is stands clean.
       let here : Represents over.it h = subst (λ (y : History). Represents over.it y) (same_of_either h x is) stands in
-      let now = later lines kept h (taken.joins.follows lines kept h here valid (endures clean)) clean in
-      (now.0, now.0, (refl, now.1, now.2.of_machine), leaves_itself over.after now.0 now.2.represents clean))
+      later lines kept h (taken.joins.follows lines kept h here valid (endures clean)) clean)
 
 -- ---- the commands
 
@@ -134,8 +128,8 @@ module _ {H F I R W K : Type 0} (m : host.Ghosts H F I) (d : disk.Ghosts F) (c :
           over = over;
           followed = followed;
           served = served;
-          holds = λ sound. leads_over m d k l old new path address ends Does over same followed.found followed.middle followed.cursor served.left followed.taken (λ clean. omega (arith, all.endures.clean, clean))
-              (λ lines kept h follows clean. ends_following l lines over.after served.left followed.cursor h all.served.0 (stop_in served.end) sound (all.served.7 lines kept h follows clean));
+          holds = leads_over m d k l old new path address ends Does over same followed.found followed.middle followed.cursor served.left (fault_behind (stop_in served.end)) followed.taken (λ clean. omega (arith, all.endures.clean, clean))
+              (λ lines kept h follows clean. ends_over l lines over.after served.left clean followed.cursor h all.served.0 (stop_in served.end) (all.served.7 lines kept h follows clean));
         }
 
     followed_whole : Whole

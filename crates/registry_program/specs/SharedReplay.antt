@@ -104,7 +104,7 @@ module _ {H F I K : Type 0} (m : host.Ghosts H F I) (d : disk.Ghosts F) (k : log
   ReplaysSharedTo founding address old new path ends =
       ((failure : Failure) × IsUnconnected m d old new path failure × IsFailure failure ends) ⊎ IsReplayedShared founding address old new path ends
 
-  -- replay STORE URL: no store is opened if the log has no founding
+  -- replay STORE --log URL: no store is opened if the log has no founding
   abbrev pub ReplaysShared : H → H → List ℕ → List ℕ → Ends → Type 0
   ReplaysShared old new path address ends =
       HasNoFoundingAt k l address old new ends

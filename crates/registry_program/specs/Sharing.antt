@@ -154,7 +154,7 @@ module _ {H F I R W K : Type 0} (m : host.Ghosts H F I) (c : connections.Ghosts 
         × desk.IsToldLast visits (desk.stop_in end)
         × ((lines : K → LogLines) → IsKept l lines → (h : History) → Follows l lines it cursor h → HasCleanDisk (state_of after) → desk.EndsOver l lines cursor after cursor_new h visits (desk.stop_in end))
         × (is_poisoned it ≡ true → All desk.IsTurnedAwayAt visits × (after ≡ it) × (cursor_new ≡ cursor))
-        × ((lines : K → LogLines) → IsKept l lines → (h : History) → Follows l lines it cursor h → HasCleanDisk (state_of after) → IsAsked l (AppendsOrdersIn visits) cursor.log cursor_new.log)
+        × ((lines : K → LogLines) → IsKept l lines → (h : History) → Follows l lines it cursor h → HasCleanDisk (state_of after) → IsAsked l (AppendsOrdersIn (lines cursor_new.log) h visits) cursor.log cursor_new.log)
     pub notes : NotesForeign it after (fault_behind (desk.stop_in end))
     pub endures : Endures (state_of it) (state_of after)
 

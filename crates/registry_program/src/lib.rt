@@ -54,8 +54,9 @@
 //! then do is said by `ServesJoined`, `AppliesJoined` and `ImportsJoined`. A log with which the registry
 //! does not go on is left, with the reason, which only a cause names beyond `fault: log` (`TellsStop`).
 //! Over a log that keeps its lines the files then hold a history to which the one before leads, and the
-//! log begins with its record (`LeadsFilesOver`), unless a fault of the registry ended the command. So do the
-//! files that `replay` made, with a history to which that founding leads (`AreMadeOver`).
+//! log begins with its record (`LeadsFilesOver`); after a fault of the registry they may hold one of two
+//! (`IsLeftOver`). So do the files that `replay` made, with a history to which that founding leads
+//! (`AreMadeOver`).
 //!
 //! # The line with a cause
 //!

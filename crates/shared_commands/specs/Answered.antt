@@ -1,5 +1,5 @@
 -- Requests that are answered over a log, one after another, and their reply lines.
-use Rattle.std.specs.Prelude.{◌≡◌, ◌⊎◌, ℕ, List, [], ◌∷◌, ◌++◌, Option, Some, None, Result, Ok, Err}
+use Rattle.std.specs.Prelude.{◌≡◌, ◌⊎◌, ℕ, List, [], ◌∷◌, ◌++◌, Option, None, Result, Ok, Err}
 use Rattle.std.specs.Io.KnownBytes.{Appends}
 use Rattle.sqlite.specs.Store.{Ghosts}
 use Rattle.byte_streams.specs.Streams.{AppendsPrefix}
@@ -10,7 +10,6 @@ use Rattle.registry_rules.specs.Run.{after_one, reply_to}
 use Rattle.registry_laws.specs.Machines.{IsOfMachine, LeadsTo}
 use Rattle.registry_store.specs.declared.fault.Fault.{Fault}
 use Rattle.registry_store.specs.declared.registry.Registry.{Registry}
-use Rattle.registry_commands.specs.declared.messages.Failure.{Failure}
 use Rattle.registry_commands.specs.declared.messages.Failure.TheVariants.{File, Memory}
 use Rattle.registry_commands.specs.declared.status.ExitStatus.{ExitStatus}
 use Rattle.registry_commands.specs.Ends.{Output}
@@ -19,11 +18,10 @@ use Rattle.registry_commands.specs.Imports.{exit_status_of}
 use Rattle.registry_commands.specs.Messages.{reply_line, reply_lines}
 use Rattle.shared_log.specs.Calls.{LogLines}
 use Rattle.shared_log.specs.declared.log.Log.{Ghosts as LogGhosts}
-use Rattle.shared_registry.specs.Asks.{AppendsRequest}
+use Rattle.shared_registry.specs.Asks.{AppendsRequest, IsAsked}
 use Rattle.shared_registry.specs.Follows.{Follows, IsAnswered, IsLeft, WasWhole}
 use Rattle.shared_registry.specs.Lines.{fault_of}
 use Rattle.shared_registry.specs.declared.cursor.Cursor.{Cursor}
-use Rattle.shared_registry.specs.declared.stop.ShareStop.{ShareStop}
 use Rattle.shared_commands.specs.declared.answering.AnswerStop.{AnswerStop}
 use Rattle.shared_commands.specs.declared.answering.AnswerStop.TheVariants as stops
 
@@ -32,14 +30,6 @@ abbrev pub fault_behind : {A : Type 0} → Result A AnswerStop → Option Fault
 fault_behind (Ok it) = None
 fault_behind (Err (stops.Share stop)) = fault_of stop
 fault_behind (Err (stops.Output failure)) = None
-
--- a request is one of these
-abbrev pub IsOneOf : List Request → Request → Type 0
-IsOneOf rs r = (front rest : List Request) × (rs ≡ front ++ r ∷ rest)
-
--- only the lines of these requests are appended, each with some reply
-abbrev pub AppendsOneOf : List Request → ℕ → List ℕ → Type 0
-AppendsOneOf rs n line = (r : Request) × IsOneOf rs r × AppendsRequest r n line
 
 -- What a stop says of the writes. If a line was cut, memory ran out for it, or one write failed. No other write did.
 abbrev pub TellsWrites : ℕ → ℕ → AnswerStop → Type 0
@@ -51,9 +41,9 @@ abbrev pub IsSilentAt : Output → AnswerStop → Type 0
 IsSilentAt out (stops.Share stop) = out.new ≡ out.old
 IsSilentAt out (stops.Output failure) = failure ≡ Memory → out.new ≡ out.old
 
-module _ {L : Type 0} (lines : L → LogLines) where
+module _ {L : Type 0} (l : LogGhosts L) (lines : L → LogLines) where
   -- A request got the reply of a history that was the whole log at some instant of its call. The next history is the one after it, and
-  -- the log has its record.
+  -- the log has its record. No line but that of the request was to be appended.
   pub record IsAnsweredBy (c : Cursor L) (h : History) (r : Request) (reply : Reply) (c_new : Cursor L) (next : History) : Type 0 where
     pub before : History
     pub leads : LeadsTo h before
@@ -61,6 +51,7 @@ module _ {L : Type 0} (lines : L → LogLines) where
     pub reply_is : reply ≡ reply_to before r
     pub next_is : next ≡ after_one before r
     pub of_machine : IsOfMachine (lines c_new.log) next
+    pub asks : IsAsked l (AppendsRequest (lines c_new.log) h r) c.log c_new.log
 
   -- requests got these replies, one after another
   abbrev pub AreAnswered : Cursor L → History → List Request → List Reply → Cursor L → History → Type 0
@@ -89,11 +80,12 @@ module _ {S : Type 0} {g : Ghosts S} {L : Type 0} (l : LogGhosts L) (lines : L �
     pub record HasAnswered : Type 0 where
       pub replies : List Reply
       pub next : History
-      pub answered : AreAnswered lines c h rs replies c_new next
+      pub answered : AreAnswered l lines c h rs replies c_new next
       pub follows : Follows l lines it_new c_new next
       pub written : Appends out.old.contents out.new.contents (reply_lines replies)
 
-    -- The first requests are answered, and their reply lines written. This stopped the next one.
+    -- The first requests are answered, and their reply lines written. This stopped the next one, and no line but that of it was to be
+    -- appended then.
     pub record HasAnsweredSome (stop : AnswerStop) : Type 0 where
       pub done : List Request
       pub next : Request
@@ -102,7 +94,8 @@ module _ {S : Type 0} {g : Ghosts S} {L : Type 0} (l : LogGhosts L) (lines : L �
       pub replies : List Reply
       pub place : Cursor L
       pub last : History
-      pub answered : AreAnswered lines c h done replies place last
+      pub answered : AreAnswered l lines c h done replies place last
       pub middle : Option (List ℕ)
       pub written : Appends out.old.contents middle (reply_lines replies)
       pub stopped : IsCut place last next middle out.new.contents stop
+      pub asks : IsAsked l (AppendsRequest (lines c_new.log) last next) place.log c_new.log

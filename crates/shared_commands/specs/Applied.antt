@@ -16,13 +16,12 @@ use Rattle.registry_commands.specs.Failures.{Prints, PrintsFailure}
 use Rattle.registry_commands.specs.Messages.{bad_line_text, exceeds_text, failure_line}
 use Rattle.shared_log.specs.Calls.{IsKept, LogLines}
 use Rattle.shared_log.specs.declared.log.Log.{Ghosts as LogGhosts}
-use Rattle.shared_registry.specs.Asks.{IsAsked}
 use Rattle.shared_registry.specs.Follows.{Follows}
 use Rattle.shared_registry.specs.Lines.{fault_in}
 use Rattle.shared_registry.specs.declared.cursor.Cursor.{Cursor}
 use Rattle.shared_registry.specs.declared.stop.ShareStop.{ShareStop}
 use Rattle.shared_commands.specs.declared.answering.AnswerStop.TheVariants as stops
-use Rattle.shared_commands.specs.Answered.{AppendsOneOf, HasAnswered, HasAnsweredSome, TellsWrites}
+use Rattle.shared_commands.specs.Answered.{HasAnswered, HasAnsweredSome, TellsWrites}
 
 -- what a command over a log did: its registry, its place in the log and its outputs before it and after it, and how it ended
 pub record Did (S : Type 0) (g : Ghosts S) (L : Type 0) : Type 0 where
@@ -70,7 +69,6 @@ module _ {S : Type 0} {g : Ghosts S} {L : Type 0} (l : LogGhosts L) (it : Did S 
   -- These requests were answered, or some of them. A poisoned registry acts on none.
   pub record DidRun (rs : List Request) : Type 0 where
     pub ends : EndsRun rs it.end
-    pub asks : FollowedWith (λ lines h. IsAsked l (AppendsOneOf rs) it.from.log it.to.log)
     pub when_poisoned : is_poisoned it.old ≡ true → (it.new ≡ it.old) × (it.to ≡ it.from) × (it.out.new.contents ≡ it.out.old.contents)
     pub notes : NotesForeign it.old it.new (fault_in it.end)
     pub endures : Endures (state_of it.old) (state_of it.new)

@@ -1,5 +1,5 @@
 -- What an import does over a log.
-use Rattle.std.specs.Prelude.{◌≡◌, ◌⊎◌, ◌≤◌, ℕ, true, List, [], ◌∷◌, length, Result, Ok, Err}
+use Rattle.std.specs.Prelude.{◌≡◌, ◌⊎◌, ◌≤◌, ℕ, true, List, length, Result, Ok, Err}
 use Rattle.sqlite.specs.Store.{Ghosts}
 use Rattle.byte_streams.specs.Streams.{most_bytes}
 use Rattle.usbids_text.specs.declared.fault.ReadFault.{ReadFault}
@@ -11,7 +11,7 @@ use Rattle.registry_store.specs.Promise.{Endures, NotesForeign, Represents, is_p
 use Rattle.registry_commands.specs.declared.importing.Import.{Import}
 use Rattle.registry_commands.specs.declared.messages.Failure.{Failure}
 use Rattle.registry_commands.specs.declared.status.ExitStatus.{ExitStatus}
-use Rattle.registry_commands.specs.declared.status.ExitStatus.TheVariants.{Success, Failed, Rejected}
+use Rattle.registry_commands.specs.declared.status.ExitStatus.TheVariants.{Failed}
 use Rattle.registry_commands.specs.Ends.{Output}
 use Rattle.registry_commands.specs.Failures.{Prints, PrintsFailure}
 use Rattle.registry_commands.specs.Imports.{request_of_import}
@@ -43,7 +43,7 @@ module _ {S : Type 0} {g : Ghosts S} {L : Type 0} (l : LogGhosts L) (it : Did S 
   -- This request was answered, or not. A poisoned registry does not act on it.
   pub record DidOne (r : Request) : Type 0 where
     pub ends : EndsOne r it.end
-    pub asks : FollowedWith l it (λ lines h. IsAsked l (AppendsRequest r) it.from.log it.to.log)
+    pub asks : FollowedWith l it (λ lines h. IsAsked l (AppendsRequest (lines it.to.log) h r) it.from.log it.to.log)
     pub when_poisoned : is_poisoned it.old ≡ true → (it.new ≡ it.old) × (it.to ≡ it.from) × (it.out.new ≡ it.out.old)
     pub notes : NotesForeign it.old it.new (fault_in it.end)
     pub endures : Endures (state_of it.old) (state_of it.new)

@@ -10,7 +10,7 @@ ghost use Rattle.shared_registry.specs.Asks.{AppendsRequest, IsAsked};
 ghost use Rattle.shared_registry.specs.Follows.{Follows};
 ghost use Rattle.shared_registry.specs.declared.stop.ShareStop.TheVariants as shares;
 ghost use Rattle.shared_commands.specs.declared.answering.AnswerStop.TheVariants as stops;
-ghost use Rattle.shared_commands.specs.Answered.{AppendsOneOf, HasAnswered, HasAnsweredSome, HasReplied, IsCut, IsSilentAt, TellsWrites, fault_behind};
+ghost use Rattle.shared_commands.specs.Answered.{HasAnswered, HasAnsweredSome, HasReplied, IsCut, IsSilentAt, TellsWrites, fault_behind};
 
 use byte_streams::Sink;
 use registry_commands::{ExitStatus, Failure, exit_status_of, put_reply};
@@ -43,7 +43,7 @@ pub(crate) fn answer<S: Alter, L: Log, W: Sink>(
     ensures err { (lines : L → LogLines) → IsKept L.Log lines → (h : History) → Follows L.Log lines registry.old cursor.old h → HasCleanDisk (state_of registry.new)
         → IfErr result (IsCut L.Log lines registry.new cursor.new cursor.old h request.now (W.contents output.old) (W.contents output.new)) }
     ensures asks { (lines : L → LogLines) → IsKept L.Log lines → (h : History) → Follows L.Log lines registry.old cursor.old h → HasCleanDisk (state_of registry.new)
-        → IsAsked L.Log (AppendsRequest request.now) cursor.old.log cursor.new.log }
+        → IsAsked L.Log (AppendsRequest (lines cursor.new.log) h request.now) cursor.old.log cursor.new.log }
     ensures when_poisoned { is_poisoned registry.old ≡ true → (result ≡ Err (stops.Share (shares.Registry Fault.Poisoned))) × (registry.new ≡ registry.old) × (cursor.new ≡ cursor.old) }
     ensures kept { OnOk result (W.failures output.new ≡ W.failures output.old) }
     ensures writes { IfErr result (TellsWrites (W.failures output.old) (W.failures output.new)) }
@@ -73,8 +73,6 @@ pub(crate) fn answer_all<S: Alter, L: Log, W: Sink>(
         → OnOk result (HasAnswered L.Log lines registry.new cursor.new cursor.old h requests.now (output_of W.Sink output.old output.new)) }
     ensures err { (lines : L → LogLines) → IsKept L.Log lines → (h : History) → Follows L.Log lines registry.old cursor.old h → HasCleanDisk (state_of registry.new)
         → IfErr result (HasAnsweredSome L.Log lines registry.new cursor.new cursor.old h requests.now (output_of W.Sink output.old output.new)) }
-    ensures asks { (lines : L → LogLines) → IsKept L.Log lines → (h : History) → Follows L.Log lines registry.old cursor.old h → HasCleanDisk (state_of registry.new)
-        → IsAsked L.Log (AppendsOneOf requests.now) cursor.old.log cursor.new.log }
     ensures when_poisoned { is_poisoned registry.old ≡ true → (registry.new ≡ registry.old) × (cursor.new ≡ cursor.old) × (W.contents output.new ≡ W.contents output.old) }
     ensures kept { OnOk result (W.failures output.new ≡ W.failures output.old) }
     ensures writes { IfErr result (TellsWrites (W.failures output.old) (W.failures output.new)) }

@@ -8,7 +8,8 @@
 //! Each request is answered as `act` of `shared_registry` answers it: its reply is that of a history
 //! which was the whole log at some instant of its call (`IsAnsweredBy`), and the log has the record of
 //! the history after it. Its line is written before the next request is acted on (`AreAnswered`,
-//! `HasAnswered`). No other line is appended to the log than those of these requests (`AppendsOneOf`).
+//! `HasAnswered`). No other line is appended to the log than that of the request whose turn it is, with its
+//! reply (`AppendsRequest`).
 //!
 //! # What stops a command
 //!

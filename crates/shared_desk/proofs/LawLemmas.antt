@@ -1,5 +1,5 @@
 -- Answers on any two machines.
-use Rattle.std.proofs.Common.{◌≡◌, ◌≤◌, ◌∙◌, length, inl, inr, sym, ap, subst, arith}
+use Rattle.std.proofs.Common.{◌≤◌, ◌∙◌, length, inl, inr, ap, subst, arith}
 use Rattle.std.proofs.lemmas.List.{length-append}
 use Rattle.registry_rules.specs.History.{History}
 use Rattle.registry_laws.specs.Machines.{IsOfMachine, LeadsTo}

@@ -1,5 +1,5 @@
 -- Serving one connection after another over a log.
-use Rattle.std.proofs.Common.{append_assoc, ◌≡◌, ◌⊎◌, ◌∙◌, ℕ, ◌<◌, ◌≤◌, List, [], ◌∷◌, ◌++◌, length, Bool, true, false, Option, None, Some, inl, inr, refl, sym, ap, subst, arith}
+use Rattle.std.proofs.Common.{◌≡◌, ◌⊎◌, ◌∙◌, ℕ, ◌<◌, ◌≤◌, List, [], ◌∷◌, ◌++◌, length, Bool, true, false, Option, None, Some, inl, inr, refl, sym, ap, subst, arith}
 use Rattle.std.specs.Prelude.{All, Result, Ok, Err, OnOk, OnErr, IfOk, if◌then◌else◌}
 use Rattle.std.proofs.lemmas.List.Elements.{All-append, All-cons, All-nil}
 use Rattle.sqlite.specs.Store.{Ghosts}
@@ -31,7 +31,7 @@ use Rattle.shared_registry.specs.Follows.{Follows, FollowsLater, HasFailed}
 use Rattle.shared_registry.specs.declared.cursor.Cursor.{Cursor}
 use Rattle.shared_registry.specs.declared.stop.ShareStop.{ShareStop}
 use Rattle.shared_registry.specs.declared.stop.ShareStop.TheVariants as stops
-use Rattle.shared_registry.proofs.AskLemmas.{asked_nothing, asked_then, asked_weaker}
+use Rattle.shared_registry.proofs.AskLemmas.{asked_to}
 use Rattle.shared_registry.proofs.LineLemmas.{leads_on}
 use Rattle.shared_desk.specs.declared.serve.Turn.{Turn}
 use Rattle.shared_desk.specs.declared.server.SharedStop.{SharedStop}
@@ -41,6 +41,7 @@ use Rattle.shared_desk.specs.Refusals.{fault_behind, may_pass, unavailable_for}
 use Rattle.shared_desk.specs.Serving.{IsAnsweredBeside, IsServedBeside, IsToldBy, IsTurnedAway, IsUnserved}
 use Rattle.shared_desk.specs.Server.{EndsBeside, EndsConnections, EndsOver, IfVisited, IsStopTold, IsToldAt, IsToldLast, IsTurnedAwayAt, IsTurnOver, TurnsOver, ends_by, served_in, stop_in, stop_to_end}
 use Rattle.shared_desk.proofs.ServeLemmas.{leads_by_message}
+use Rattle.shared_desk.proofs.TurnLemmas.{asked_more}
 
 abbrev served_as : List ℕ → Response → Served → Visit
 served_as bytes response served = record { bytes = bytes; text = response_bytes response; end = Ok served }
@@ -134,7 +135,7 @@ module _ {S C R W : Type 0} {g : Ghosts S} {L : Type 0} (l : LogGhosts L) (opens
       × IsToldAt visit stop
       × ((lines : L → LogLines) → IsKept l lines → (h : History) → Follows l lines it c h → HasCleanDisk (state_of last) → AreTextsOf h cache → EndsBeside l lines c last c_new h visit cache_new stop)
       × (is_poisoned it ≡ true → IsTurnedAwayAt visit × (last ≡ it) × (c_new ≡ c))
-      × ((lines : L → LogLines) → IsKept l lines → (h : History) → Follows l lines it c h → HasCleanDisk (state_of last) → IsAsked l (AppendsOrderIn visit.bytes) c.log c_new.log)
+      × ((lines : L → LogLines) → IsKept l lines → (h : History) → Follows l lines it c h → HasCleanDisk (state_of last) → IsAsked l (AppendsOrderIn (lines c_new.log) h visit.bytes) c.log c_new.log)
 
   -- a message was served between the opening and the closing of a connection
   pub visit_of : (old opened new : C) (reader reader_new : R) (writer writer_new : W) (it last : Registry S g) (c c_new : Cursor L) (cache cache_new : Cache) (turn : Result Turn Broken) (status : Option ℕ) (stop : Option ShareStop) (bytes : List ℕ)
@@ -144,7 +145,7 @@ module _ {S C R W : Type 0} {g : Ghosts S} {L : Type 0} (l : LogGhosts L) (opens
       × IsToldBy turn.stop response
       × ((lines : L → LogLines) → IsKept l lines → (h : History) → Follows l lines it c h → HasCleanDisk (state_of last) → AreTextsOf h cache → IsServedBeside l lines c last c_new h bytes response cache_new turn.stop)
       × (is_poisoned it ≡ true → IsTurnedAway bytes response turn.stop × (last ≡ it) × (c_new ≡ c))
-      × ((lines : L → LogLines) → IsKept l lines → (h : History) → Follows l lines it c h → HasCleanDisk (state_of last) → IsAsked l (AppendsOrderIn bytes) c.log c_new.log))
+      × ((lines : L → LogLines) → IsKept l lines → (h : History) → Follows l lines it c h → HasCleanDisk (state_of last) → IsAsked l (AppendsOrderIn (lines c_new.log) h bytes) c.log c_new.log))
       → OnErr turn (FailsAfter (remaining reader) (remaining reader_new) (reads_failed reader) (reads_failed reader_new) IsIncomplete × (writer_new ≡ writer) × (last ≡ it) × (c_new ≡ c) × (cache_new ≡ cache))
       → OnOk turn (reads_failed reader_new ≡ reads_failed reader)
       → Came old new it last c c_new cache cache_new stop
@@ -165,7 +166,7 @@ module _ {S C R W : Type 0} {g : Ghosts S} {L : Type 0} (l : LogGhosts L) (opens
         λ lines kept h follows clean of.
             (h, (refl, failed.3), rw failed.2 (rw failed.3 follows), rw failed.4 of),
         λ poisoned. (tt, failed.2, failed.3),
-        λ lines kept h follows clean. subst (λ (d : Cursor L). IsAsked l (AppendsOrderIn bytes) c.log d.log) (sym failed.3) (asked_nothing l (AppendsOrderIn bytes) c.log),
+        λ lines kept h follows clean. asked_to l (AppendsOrderIn (lines c_new.log) h bytes) c.log c_new.log (ap (λ (d : Cursor L). d.log) failed.3),
       )
 
 -- ---- one connection after another
@@ -196,14 +197,6 @@ module _ {S : Type 0} {g : Ghosts S} {L : Type 0} (l : LogGhosts L) (lines : L �
 pub all_more : (P : Visit → Type 0) (visits : List Visit) (visit : Visit) → All P visits → P visit → All P (visits ++ visit ∷ [])
 all_more P visits visit all one = All-append P visits (visit ∷ []) all (All-cons P visit [] one (All-nil P))
 
--- orders of these connections, and then that of one more
-pub asked_more : {L : Type 0} (l : LogGhosts L) (visits : List Visit) (visit : Visit) (a b c : L) → IsAsked l (AppendsOrdersIn visits) a b → IsAsked l (AppendsOrderIn visit.bytes) b c → IsAsked l (AppendsOrdersIn (visits ++ visit ∷ [])) a c
-asked_more l visits visit a b c so_far one =
-    let May = AppendsOrdersIn (visits ++ visit ∷ []) in
-    asked_then l May a b c
-    (asked_weaker l (AppendsOrdersIn visits) May (λ n line it. (it.0, it.1, it.2 ++ visit ∷ [], ap (λ (all : List Visit). all ++ visit ∷ []) it.3 ∙ append_assoc it.0 (it.1 ∷ it.2) (visit ∷ []), it.4)) a b so_far)
-    (asked_weaker l (AppendsOrderIn visit.bytes) May (λ n line it. (visits, visit, [], refl, it)) b c one)
-
 module _ {S C R W : Type 0} {g : Ghosts S} {L : Type 0} (l : LogGhosts L) (opens : C → C → R → W → Type 0) (closes : C → C → R → W → Option ℕ → Type 0) (remaining : R → Option (List ℕ)) (reads_failed : R → ℕ) (contents : W → Option (List ℕ)) (writes_failed : W → ℕ) (fails : C → C → Type 0) where
   abbrev Ends : C → C → Registry S g → Registry S g → Cursor L → Cursor L → ℕ → Result (Unit {0}) SharedStop → Type 0
   Ends old new first last c c_new count result = (visits : List Visit) × (middle : C)
@@ -213,7 +206,7 @@ module _ {S C R W : Type 0} {g : Ghosts S} {L : Type 0} (l : LogGhosts L) (opens
       × IsToldLast visits (stop_in result)
       × ((lines : L → LogLines) → IsKept l lines → (h : History) → Follows l lines first c h → HasCleanDisk (state_of last) → EndsOver l lines c last c_new h visits (stop_in result))
       × (is_poisoned first ≡ true → All IsTurnedAwayAt visits × (last ≡ first) × (c_new ≡ c))
-      × ((lines : L → LogLines) → IsKept l lines → (h : History) → Follows l lines first c h → HasCleanDisk (state_of last) → IsAsked l (AppendsOrdersIn visits) c.log c_new.log)
+      × ((lines : L → LogLines) → IsKept l lines → (h : History) → Follows l lines first c h → HasCleanDisk (state_of last) → IsAsked l (AppendsOrdersIn (lines c_new.log) h visits) c.log c_new.log)
 
   -- a server ends when no more connections come, or at a stop
   pub ended_by : (old middle new : C) (first mid last : Registry S g) (c c_mid c_new : Cursor L) (cache cache_new : Cache) (count : ℕ) (visits : List Visit) (stop : SharedStop)
@@ -221,7 +214,7 @@ module _ {S C R W : Type 0} {g : Ghosts S} {L : Type 0} (l : LogGhosts L) (opens
       → (HasCleanDisk (state_of last) → HasCleanDisk (state_of mid))
       → ((lines : L → LogLines) → IsKept l lines → (h : History) → Follows l lines first c h → HasCleanDisk (state_of mid) → FollowsBeside l lines c h mid c_mid cache visits)
       → (is_poisoned first ≡ true → All IsTurnedAwayAt visits × (mid ≡ first) × (c_mid ≡ c))
-      → ((lines : L → LogLines) → IsKept l lines → (h : History) → Follows l lines first c h → HasCleanDisk (state_of mid) → IsAsked l (AppendsOrdersIn visits) c.log c_mid.log)
+      → ((lines : L → LogLines) → IsKept l lines → (h : History) → Follows l lines first c h → HasCleanDisk (state_of mid) → IsAsked l (AppendsOrdersIn (lines c_mid.log) h visits) c.log c_mid.log)
       → IfVisited (Err stop) (Came l opens closes remaining reads_failed contents writes_failed middle new mid last c_mid c_new cache cache_new (stop_in (Err stop)))
       → (stop ≡ ends.Connections → fails middle new × (last ≡ mid) × (c_new ≡ c_mid)) → Ends old new first last c c_new count (Err stop)
   ended_by old middle new first mid last c c_mid c_new cache cache_new count visits ends.Connections before less early so_far turned asked came none =
@@ -235,7 +228,7 @@ module _ {S C R W : Type 0} {g : Ghosts S} {L : Type 0} (l : LogGhosts L) (opens
         tt,
         λ lines kept h follows clean. rw (ended.1, ended.2) (ends_after l lines c h mid c_mid cache visits (so_far lines kept h follows (early clean))),
         λ poisoned. let away = turned poisoned in (away.0, ended.1 ∙ away.1, ended.2 ∙ away.2),
-        λ lines kept h follows clean. subst (λ (d : Cursor L). IsAsked l (AppendsOrdersIn visits) c.log d.log) (sym ended.2) (asked lines kept h follows (early clean)),
+        λ lines kept h follows clean. subst (λ (d : Cursor L). IsAsked l (AppendsOrdersIn (lines d.log) h visits) c.log d.log) (sym ended.2) (asked lines kept h follows (early clean)),
       )
   ended_by old middle new first mid last c c_mid c_new cache cache_new count visits (ends.Share stop) before less early so_far turned asked came none =
       let longer = length_more visits came.0 (length visits) refl in (
@@ -255,5 +248,5 @@ module _ {S C R W : Type 0} {g : Ghosts S} {L : Type 0} (l : LogGhosts L) (opens
             (all_more IsTurnedAwayAt visits came.0 away.0 one.0, one.1 ∙ away.1, one.2 ∙ away.2),
         λ lines kept h follows clean.
             let before = so_far lines kept h follows (early clean) in
-            asked_more l visits came.0 c.log c_mid.log c_new.log (asked lines kept h follows (early clean)) (came.5 lines kept before.0 before.2 clean),
+            asked_more l lines kept c h visits c_mid before.0 before.1 came.0 c_new (asked lines kept h follows (early clean)) (came.5 lines kept before.0 before.2 clean),
       )

@@ -106,7 +106,7 @@ fn act_on_order<S: Alter, L: Log>(
     ensures notes { NotesForeign registry.old registry.new (fault_in result) }
     ensures endures { Endures (state_of registry.old) (state_of registry.new) }
     ensures asks { (lines : L → LogLines) → IsKept L.Log lines → (h : History) → Follows L.Log lines registry.old cursor.old h → HasCleanDisk (state_of registry.new)
-        → IsAsked L.Log (AppendsRequest request.now) cursor.old.log cursor.new.log }
+        → IsAsked L.Log (AppendsRequest (lines cursor.new.log) h request.now) cursor.old.log cursor.new.log }
 {
     let before = cursor.next();
     match act(registry, cursor, request) {
@@ -137,7 +137,7 @@ fn answer_message<S: Alter, L: Log>(
     ensures notes { NotesForeign registry.old registry.new (fault_in result) }
     ensures endures { Endures (state_of registry.old) (state_of registry.new) }
     ensures asks { (lines : L → LogLines) → IsKept L.Log lines → (h : History) → Follows L.Log lines registry.old cursor.old h → HasCleanDisk (state_of registry.new)
-        → IsAsked L.Log (AppendsOrder (Ok message.now)) cursor.old.log cursor.new.log }
+        → IsAsked L.Log (AppendsOrder (lines cursor.new.log) h (Ok message.now)) cursor.old.log cursor.new.log }
 {
     match message {
         Message::Query(query) => answer_after_following(alloc, registry, cursor, cache, query),
@@ -176,7 +176,7 @@ pub(crate) fn answer<S: Alter, L: Log>(
     ensures notes { NotesForeign registry.old registry.new (fault_in result) }
     ensures endures { Endures (state_of registry.old) (state_of registry.new) }
     ensures asks { (lines : L → LogLines) → IsKept L.Log lines → (h : History) → Follows L.Log lines registry.old cursor.old h → HasCleanDisk (state_of registry.new)
-        → IsAsked L.Log (AppendsOrder said.now) cursor.old.log cursor.new.log }
+        → IsAsked L.Log (AppendsOrder (lines cursor.new.log) h said.now) cursor.old.log cursor.new.log }
 {
     match said {
         Ok(message) => answer_message(alloc, registry, cursor, cache, message),

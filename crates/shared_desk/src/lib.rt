@@ -11,7 +11,7 @@
 //! message was read, since none orders the calls of a source and of a log: `serve_message` reads first.
 //! When a message has ended, the log has each order that was answered, and the registry follows the log
 //! with it. A message that is refused by itself is not asked of the log. No other line is appended than
-//! that of an order which a connection brought, with some reply (`AppendsOrdersIn`).
+//! that of an order which a connection brought, with its reply (`AppendsOrdersIn`).
 //!
 //! By the law [`is_no_older`] the history of an answer leads to that of each later one, whichever
 //! machines gave the two.

@@ -110,7 +110,7 @@ pub(crate) fn serve_message<R: Source, W: Sink, S: Alter, L: Log>(
         → IsServedBeside L.Log lines cursor.old registry.new cursor.new h bytes response cache.new turn.stop)
         × (is_poisoned registry.old ≡ true → IsTurnedAway bytes response turn.stop × (registry.new ≡ registry.old) × (cursor.new ≡ cursor.old))
         × ((lines : L → LogLines) → IsKept L.Log lines → (h : History) → Follows L.Log lines registry.old cursor.old h → HasCleanDisk (state_of registry.new)
-        → IsAsked L.Log (AppendsOrderIn bytes) cursor.old.log cursor.new.log)) }
+        → IsAsked L.Log (AppendsOrderIn (lines cursor.new.log) h bytes) cursor.old.log cursor.new.log)) }
     ensures notes { NotesForeign registry.old registry.new (fault_behind (stop_behind result)) }
     ensures read { OnErr result (FailsAfter (R.remaining source.old) (R.remaining source.new) (R.failures source.old) (R.failures source.new) IsIncomplete × (sink.new ≡ sink.old) × (registry.new ≡ registry.old) × (cursor.new ≡ cursor.old) × (cache.new ≡ cache.old)) }
     ensures kept { OnOk result (R.failures source.new ≡ R.failures source.old) }

@@ -1,17 +1,16 @@
 -- A request that a registry acts on over the log that it follows.
-use Rattle.std.proofs.Common.{◌≡◌, ◌≢◌, ◌≤◌, ◌<◌, ◌⊎◌, ◌∙◌, ◌+◌, ℕ, suc, List, [], ◌∷◌, ◌++◌, length, Option, Some, None, inl, inr, refl, sym, ap, subst, arith}
+use Rattle.std.proofs.Common.{◌≡◌, ◌≢◌, ◌≤◌, ◌⊎◌, ◌∙◌, ◌+◌, ℕ, suc, List, [], ◌∷◌, length, Option, Some, None, inl, inr, refl, sym, ap, subst, arith}
 use Rattle.std.proofs.lemmas.List.{length-append}
 use Rattle.sqlite.specs.Store.{Ghosts}
 use Rattle.sqlite.specs.State.{State}
 use Rattle.registry_rules.specs.Accepted.{accepted_by}
 use Rattle.registry_rules.specs.History.{History, with_deed}
 use Rattle.registry_rules.specs.Reply.{act_text}
-use Rattle.registry_rules.specs.Run.{after, after_one, after_verdict, reply_of, reply_to}
+use Rattle.registry_rules.specs.Run.{after, after_one, after_verdict, reply_to}
 use Rattle.registry_rules.specs.Verdict.{verdict}
 use Rattle.registry_rules.specs.declared.deed.Deed.{Deed}
 use Rattle.registry_rules.specs.declared.order.Request.{Request}
 use Rattle.registry_rules.specs.declared.verdict.Reply.{Reply}
-use Rattle.registry_rules.specs.declared.verdict.Reply.TheVariants.{Done}
 use Rattle.registry_rules.specs.declared.verdict.Verdict.{Verdict}
 use Rattle.registry_rules.specs.declared.verdict.Verdict.TheVariants.{Kept, Refused, New}
 use Rattle.registry_wire.specs.Record.{accepted_line}
@@ -29,8 +28,9 @@ use Rattle.shared_log.specs.declared.log.Log.{Ghosts as LogGhosts}
 use Rattle.shared_registry.specs.declared.cursor.AppendFault.TheVariants as faults
 use Rattle.shared_registry.specs.declared.cursor.Cursor.{Cursor}
 use Rattle.shared_registry.specs.Cursors.{HasNoNewLine, WasShown, accepted_as}
-use Rattle.shared_registry.specs.Follows.{Follows, FollowsLater, HasActed, HasFailed, HasFollowed, HasGoneOn, HasTried, HasTurned, IsAnswered, WasWhole}
+use Rattle.shared_registry.specs.Follows.{Follows, FollowsLater, HasActed, HasFailed, HasFollowed, HasGoneOn, HasTried, HasTurned, IsAnswered, LeavesOfMachine, WasWhole}
 use Rattle.shared_registry.specs.Lines.{GoesOver}
+use Rattle.shared_registry.proofs.AskLemmas.{WasAskedIfNew}
 use Rattle.shared_registry.proofs.AppendLemmas.{line_grows, line_taken, no_line_grows, no_line_next, same_grows, took_line, was_whole}
 use Rattle.shared_registry.proofs.FollowLemmas.{at_instant_grows, earlier_start, grows_none, grows_on, of_machine, still_follows, still_of}
 use Rattle.shared_registry.proofs.LineLemmas.{after_new, continued, leads_nowhere, leads_on, over_one}
@@ -140,18 +140,14 @@ module _ {S : Type 0} {g : Ghosts S} {L : Type 0} (l : LogGhosts L) (lines : L �
         let long : length (record_of (with_deed h deed)) ≡ length (record_of h) + 1 = ap length (over_shown deed is shown).written ∙ length-append (record_of h) (accepted_line (accepted_as r (act_text deed.act)) ∷ []) in
         omega (arith, passed, long, follows.next)
 
-    -- the call of the witness, if the request is new
-    abbrev pub WasAskedIfNew : (Deed → Type 0) → Type 0
-    WasAskedIfNew Heard = (c_new ≡ c) ⊎ ((deed : Deed) × (verdict h r ≡ New deed) × Heard deed)
-
     same_after : c_new ≡ c → Represents new h → Follows l lines new c_new h
     same_after same stays = still_follows l lines old c new c_new h follows stays (same_grows l lines kept c c_new same) (ap (λ (d : Cursor L). d.next) same)
 
-    not_new : (Heard : Deed → Type 0) (v : Verdict) → verdict h r ≡ v → ((deed : Deed) → v ≢ New deed) → WasAskedIfNew Heard → c_new ≡ c
+    not_new : (Heard : Deed → Type 0) (v : Verdict) → verdict h r ≡ v → ((deed : Deed) → v ≢ New deed) → WasAskedIfNew c c_new h r Heard → c_new ≡ c
     not_new Heard v is other (inl same) = same
     not_new Heard v is other (inr told) = absurd (other told.0 (sym is ∙ told.1))
 
-    acted_by : (v : Verdict) → verdict h r ≡ v → WasAskedIfNew (λ deed. WasShown l c c_new r (act_text deed.act)) → ((deed : Deed) → verdict h r ≡ New deed → WasShown l c c_new r (act_text deed.act))
+    acted_by : (v : Verdict) → verdict h r ≡ v → WasAskedIfNew c c_new h r (λ deed. WasShown l c c_new r (act_text deed.act)) → ((deed : Deed) → verdict h r ≡ New deed → WasShown l c c_new r (act_text deed.act))
         → Represents new (after_one h r) → Follows l lines new c_new (after_one h r)
     acted_by (Kept text) is asked shown now =
         let at : after_one h r ≡ h = ap (after_verdict h) is in
@@ -163,16 +159,16 @@ module _ {S : Type 0} {g : Ghosts S} {L : Type 0} (l : LogGhosts L) (lines : L �
         let at = after_new h r deed is in
         subst (Follows l lines new c_new) (sym at) (record { represents = subst (Represents new) at now; of_machine = shown_of deed is (shown deed is); next = shown_next deed is (shown deed is) })
 
-    pub acted : WasAskedIfNew (λ deed. WasShown l c c_new r (act_text deed.act)) → ((deed : Deed) → verdict h r ≡ New deed → WasShown l c c_new r (act_text deed.act))
+    pub acted : WasAskedIfNew c c_new h r (λ deed. WasShown l c c_new r (act_text deed.act)) → ((deed : Deed) → verdict h r ≡ New deed → WasShown l c c_new r (act_text deed.act))
         → Represents new (after_one h r) → Follows l lines new c_new (after_one h r)
     acted asked shown now = acted_by (verdict h r) refl asked shown now
 
-    pub grown_acted : WasAskedIfNew (λ deed. WasShown l c c_new r (act_text deed.act)) → Grows (lines c.log) (lines c_new.log)
+    pub grown_acted : WasAskedIfNew c c_new h r (λ deed. WasShown l c c_new r (act_text deed.act)) → Grows (lines c.log) (lines c_new.log)
     grown_acted (inl same) = same_grows l lines kept c c_new same
     grown_acted (inr (deed, is, shown)) = line_grows l lines kept c c_new _ (took_line l c c_new _ shown.line)
 
     -- a log that took the line was the record before it
-    pub whole_acted : WasAskedIfNew (λ deed. WasShown l c c_new r (act_text deed.act)) → c_new.next ≢ c.next → WasWhole (lines c.log) (lines c_new.log) h
+    pub whole_acted : WasAskedIfNew c c_new h r (λ deed. WasShown l c c_new r (act_text deed.act)) → c_new.next ≢ c.next → WasWhole (lines c.log) (lines c_new.log) h
     whole_acted (inl same) moved = absurd (moved (ap (λ (d : Cursor L). d.next) same))
     whole_acted (inr (deed, is, shown)) moved = was_whole l lines kept c c_new (record_of h) follows.of_machine.begins follows.next _ shown.line
 
@@ -187,29 +183,38 @@ module _ {S : Type 0} {g : Ghosts S} {L : Type 0} (l : LogGhosts L) (lines : L �
     pub failed_now : (line : List ℕ) (fault : LogFault) → HasNoNewLine l c c_new line (faults.Log fault) → HasFailed l lines c.log c_new.log fault
     failed_now line fault it = record { old = c.log; grown = grows_none (lines c.log); failed = inl it.0 }
 
-    -- a fault of the registry: the witness may have seen the request
-    grown_by_fault : WasAskedIfNew (λ deed. (c_new ≡ c) ⊎ WasShown l c c_new r (act_text deed.act)) → Grows (lines c.log) (lines c_new.log)
-    grown_by_fault (inl same) = same_grows l lines kept c c_new same
-    grown_by_fault (inr (deed, is, inl same)) = same_grows l lines kept c c_new same
-    grown_by_fault (inr (deed, is, inr shown)) = line_grows l lines kept c c_new _ (took_line l c c_new _ shown.line)
+    -- what a crash may leave, where the request was not seen
+    left_unseen : (s : State) → c_new ≡ c → Leaves newest s (λ x. (x ≡ h) ⊎ ((x ≡ after_one h r) × WasSeen (WasShown l) c c_new r (reply_to h r))) → LeavesOfMachine s (lines c_new.log) h
+    left_unseen s same leaves =
+        let of = still_of (lines c.log) (lines c_new.log) h follows.of_machine (same_grows l lines kept c c_new same) in
+        let here : c_new.next ≡ c.next = ap (λ (d : Cursor L). d.next) same in
+        record {
+          last = h;
+          next = h;
+          leads = leads_nowhere h;
+          goes_on = leads_nowhere h;
+          last_of = of;
+          next_of = of;
+          leaves = λ db may.
+              let it = leaves db may in
+              (it.0, elim it.1 [ inl is ↦ inl is | inr seen ↦ (let there : c_new.next ≡ suc c.next = ap (λ (d : Cursor L). d.next) seen.1.2.line.passed in absurd (omega (arith, here, there))) ], it.2);
+        }
 
-    stays_of : (x : History) → Grows (lines c.log) (lines c_new.log) → x ≡ h → IsOfMachine (lines c_new.log) x × LeadsTo h x
-    stays_of x grown same = (subst (IsOfMachine (lines c_new.log)) (sym same) (still_of (lines c.log) (lines c_new.log) h follows.of_machine grown), subst (LeadsTo h) (sym same) (leads_nowhere h))
+    -- where it was
+    left_seen : (s : State) (deed : Deed) → verdict h r ≡ New deed → WasShown l c c_new r (act_text deed.act)
+        → Leaves newest s (λ x. (x ≡ h) ⊎ ((x ≡ after_one h r) × WasSeen (WasShown l) c c_new r (reply_to h r))) → LeavesOfMachine s (lines c_new.log) h
+    left_seen s deed is shown leaves = record {
+      last = h;
+      next = with_deed h deed;
+      leads = leads_nowhere h;
+      goes_on = (over_shown deed is shown).leads;
+      last_of = still_of (lines c.log) (lines c_new.log) h follows.of_machine (line_grows l lines kept c c_new _ (took_line l c c_new _ shown.line));
+      next_of = shown_of deed is shown;
+      leaves = λ db may. let it = leaves db may in (it.0, elim it.1 [ inl at ↦ inl at | inr one ↦ inr (one.0 ∙ after_new h r deed is) ], it.2);
+    }
 
-    seen_of : (x : History) (v : Verdict) → verdict h r ≡ v → Grows (lines c.log) (lines c_new.log) → x ≡ after_one h r → (text : List ℕ) → reply_to h r ≡ Done text → WasShown l c c_new r text → IsOfMachine (lines c_new.log) x × LeadsTo h x
-    seen_of x (Kept kept_text) is grown at text replied shown = stays_of x grown (at ∙ ap (after_verdict h) is)
-    seen_of x (Refused refusal) is grown at text replied shown = stays_of x grown (at ∙ ap (after_verdict h) is)
-    seen_of x (New deed) is grown at text replied shown =
-        let both : Done (act_text deed.act) ≡ Done text = sym (ap reply_of is) ∙ replied in
-        let same : act_text deed.act ≡ text = cc in
-        let mine = subst (WasShown l c c_new r) (sym same) shown in
-        let x_is = at ∙ after_new h r deed is in
-        (subst (IsOfMachine (lines c_new.log)) (sym x_is) (shown_of deed is mine), subst (LeadsTo h) (sym x_is) (over_shown deed is mine).leads)
-
-    left_either : (x : History) → Grows (lines c.log) (lines c_new.log) → (x ≡ h) ⊎ ((x ≡ after_one h r) × WasSeen (WasShown l) c c_new r (reply_to h r)) → IsOfMachine (lines c_new.log) x × LeadsTo h x
-    left_either x grown (inl same) = stays_of x grown same
-    left_either x grown (inr it) = seen_of x (verdict h r) refl grown it.0 it.1.0 it.1.1 it.1.2
-
-    pub left_acted : (s : State) → WasAskedIfNew (λ deed. (c_new ≡ c) ⊎ WasShown l c c_new r (act_text deed.act))
-        → Leaves newest s (λ x. (x ≡ h) ⊎ ((x ≡ after_one h r) × WasSeen (WasShown l) c c_new r (reply_to h r))) → Leaves newest s (λ x. IsOfMachine (lines c_new.log) x × LeadsTo h x)
-    left_acted s asked leaves db may = let it = leaves db may in (it.0, left_either it.0 (grown_by_fault asked) it.1, it.2)
+    pub left_acted : (s : State) → WasAskedIfNew c c_new h r (λ deed. (c_new ≡ c) ⊎ WasShown l c c_new r (act_text deed.act))
+        → Leaves newest s (λ x. (x ≡ h) ⊎ ((x ≡ after_one h r) × WasSeen (WasShown l) c c_new r (reply_to h r))) → LeavesOfMachine s (lines c_new.log) h
+    left_acted s (inl same) leaves = left_unseen s same leaves
+    left_acted s (inr (deed, is, inl same)) leaves = left_unseen s same leaves
+    left_acted s (inr (deed, is, inr shown)) leaves = left_seen s deed is shown leaves

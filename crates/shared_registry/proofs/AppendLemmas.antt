@@ -52,7 +52,7 @@ module _ {L : Type 0} (l : LogGhosts L) (c mid : Cursor L) (line : List ℕ) whe
 module _ {L : Type 0} (l : LogGhosts L) (lines : L → LogLines) where
   -- ---- what an append means
 
-  append_grows : (n : ℕ) (line : List ℕ) (answer : _) (old new : LogLines) → AppendMeans n line answer old new → Grows old new
+  pub append_grows : (n : ℕ) (line : List ℕ) (answer : _) (old new : LogLines) → AppendMeans n line answer old new → Grows old new
   append_grows n line answers.Appended old new it = grows_on old it.instant new it.before (grows_by it.instant line new it.after)
   append_grows n line (answers.Taken other) old new it = at_instant_grows old new (λ log. slice_get log n ≡ Some other) it
   append_grows n line answers.Behind old new it = at_instant_grows old new (λ log. length log < n) it

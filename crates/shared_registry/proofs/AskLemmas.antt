@@ -1,10 +1,17 @@
 -- Calls of a log, one after another.
-use Rattle.std.proofs.Common.{◌≡◌, ◌∙◌, ◌+◌, ◌<◌, ℕ, List, [], ◌∷◌, length, Some, inl, inr, refl, sym, ap, subst}
+use Rattle.std.proofs.Common.{◌≡◌, ◌⊎◌, ◌∙◌, ◌+◌, ◌<◌, ℕ, List, [], ◌∷◌, length, Some, inl, inr, refl, sym, ap, subst}
 use Rattle.std.proofs.Math.ListN.{get_or}
 use Rattle.std.proofs.lemmas.Option.{slice_get-get_or}
+use Rattle.registry_rules.specs.History.{History}
+use Rattle.registry_rules.specs.Reply.{act_text}
+use Rattle.registry_rules.specs.Verdict.{verdict}
+use Rattle.registry_rules.specs.declared.deed.Deed.{Deed}
 use Rattle.registry_rules.specs.declared.order.Request.{Request}
+use Rattle.registry_rules.specs.declared.verdict.Verdict.TheVariants.{New}
+use Rattle.registry_laws.specs.Machines.{IsOfMachine, LeadsTo}
+use Rattle.registry_laws.specs.Records.{record_of}
 use Rattle.registry_wire.specs.Record.{accepted_line}
-use Rattle.shared_log.specs.Calls.{LogLines}
+use Rattle.shared_log.specs.Calls.{Grows, IsKept, IsPage, LogLines}
 use Rattle.shared_log.specs.declared.answers.AppendAnswer.TheVariants as answers
 use Rattle.shared_log.specs.declared.answers.PageAnswer.{PageAnswer}
 use Rattle.shared_log.specs.declared.log.Log.{Ghosts as LogGhosts}
@@ -12,12 +19,22 @@ use Rattle.shared_registry.specs.declared.cursor.AppendFault.{AppendFault}
 use Rattle.shared_registry.specs.declared.cursor.AppendFault.TheVariants as faults
 use Rattle.shared_registry.specs.declared.cursor.Cursor.{Cursor}
 use Rattle.shared_registry.specs.Asks.{AppendsLines, AppendsNothing, AppendsRequest, AreCalls, IsAsked, IsCall}
-use Rattle.shared_registry.proofs.AppendLemmas.{did_not_take, took_line}
+use Rattle.shared_registry.proofs.AppendLemmas.{append_grows, did_not_take, took_line}
+use Rattle.shared_registry.proofs.FollowLemmas.{at_instant_grows, grows_none, grows_on, still_of}
+use Rattle.shared_registry.proofs.LineLemmas.{leads_nowhere, leads_on}
 use Rattle.shared_registry.specs.Cursors.{HasLine, HasNoLine, HasNoNewLine, WasShown, WasNotTaken, accepted_as}
+
+-- the call of the witness, if the request is new
+abbrev pub WasAskedIfNew : {L : Type 0} → Cursor L → Cursor L → History → Request → (Deed → Type 0) → Type 0
+WasAskedIfNew c c_new h r Heard = (c_new ≡ c) ⊎ ((deed : Deed) × (verdict h r ≡ New deed) × Heard deed)
 
 module _ {L : Type 0} (l : LogGhosts L) (May : ℕ → List ℕ → Type 0) where
   pub asked_nothing : (a : L) → IsAsked l May a a
   asked_nothing a = ([], refl)
+
+  -- the same of a log that is left as it is
+  pub asked_to : (a b : L) → b ≡ a → IsAsked l May a b
+  asked_to a b same = subst (λ (x : L). IsAsked l May a x) (sym same) (asked_nothing a)
 
   pub asked_once : (a b : L) → IsCall l May a b → IsAsked l May a b
   asked_once a b call = (b ∷ [], (call, refl))
@@ -49,9 +66,21 @@ module _ {L : Type 0} (l : LogGhosts L) (May : ℕ → List ℕ → Type 0) wher
   pub asked_no_line : (c c_new : Cursor L) (line : List ℕ) (fault : AppendFault) → May c.next line → HasNoNewLine l c c_new line fault → IsAsked l May c.log c_new.log
   asked_no_line c c_new line faults.Taken may it = asked_once c.log c_new.log (inr (inl (c.next, line, answers.Taken it.0.0, may, it.0.1)))
   asked_no_line c c_new line faults.Behind may it = asked_once c.log c_new.log (inr (inl (c.next, line, answers.Behind, may, it.0)))
-  asked_no_line c c_new line faults.Full may it = subst (λ (d : Cursor L). IsAsked l May c.log d.log) (sym it.0) (asked_nothing c.log)
-  asked_no_line c c_new line faults.NoMemory may it = subst (λ (d : Cursor L). IsAsked l May c.log d.log) (sym it) (asked_nothing c.log)
+  asked_no_line c c_new line faults.Full may it = asked_to c.log c_new.log (ap (λ (d : Cursor L). d.log) it.0)
+  asked_no_line c c_new line faults.NoMemory may it = asked_to c.log c_new.log (ap (λ (d : Cursor L). d.log) it)
   asked_no_line c c_new line (faults.Log fault) may it = asked_in_vain c.log c_new.log it.0
+
+-- a line that may be appended later may be appended by an earlier history, to a log that has grown
+pub appends_earlier : (log new : LogLines) (h x : History) (r : Request) → LeadsTo h x → Grows log new → (n : ℕ) (line : List ℕ) → AppendsRequest log x r n line → AppendsRequest new h r n line
+appends_earlier log new h x r leads grown n line it = record {
+  before = it.before;
+  leads = leads_on h x it.before leads it.leads;
+  there = still_of log new it.before it.there grown;
+  deed = it.deed;
+  new = it.new;
+  number = it.number;
+  written = it.written;
+}
 
 module _ {L : Type 0} (l : LogGhosts L) (May Might : ℕ → List ℕ → Type 0) (weaker : (n : ℕ) (line : List ℕ) → May n line → Might n line) where
   call_weaker : (a b : L) → IsCall l May a b → IsCall l Might a b
@@ -83,13 +112,65 @@ module _ {L : Type 0} (l : LogGhosts L) (these : LogLines) (start c c_new : Curs
   pub asked_no_next : (fault : AppendFault) → HasNoLine l c c_new line fault → IsAsked l (AppendsLines these start.next) start.log c_new.log
   asked_no_next fault it = asked_then l (AppendsLines these start.next) start.log c.log c_new.log so_far (asked_no_line l (AppendsLines these start.next) c c_new line fault is_next (did_not_take l c c_new line fault it))
 
-module _ {L : Type 0} (l : LogGhosts L) (c c_new : Cursor L) (r : Request) where
-  -- a request was shown to the cursor, or was to be
-  pub asked_shown : (text : List ℕ) → WasShown l c c_new r text → IsAsked l (AppendsRequest r) c.log c_new.log
-  asked_shown text it = asked_line l (AppendsRequest r) c c_new (accepted_line (accepted_as r text)) (text, refl) (took_line l c c_new _ it.line)
+-- ---- the line of a request
 
-  pub asked_unshown : (text : List ℕ) (fault : AppendFault) → WasNotTaken l c c_new r text fault → IsAsked l (AppendsRequest r) c.log c_new.log
-  asked_unshown text fault it = asked_no_line l (AppendsRequest r) c c_new (accepted_line (accepted_as r text)) fault (text, refl) it
+module _ {L : Type 0} (l : LogGhosts L) (lines : L → LogLines) (kept : IsKept l lines) where
+  call_grows : (May : ℕ → List ℕ → Type 0) (a b : L) → IsCall l May a b → Grows (lines a) (lines b)
+  call_grows May a b (inl read) = at_instant_grows (lines a) (lines b) (IsPage read.0 read.1) (kept.reads a b read.0 read.1 read.2)
+  call_grows May a b (inr (inl it)) = append_grows l lines it.0 it.1 it.2 (lines a) (lines b) (kept.appends a b it.0 it.1 it.2 it.4)
+  call_grows May a b (inr (inr fails)) = kept.fails a b fails
 
-  pub asked_same : c_new ≡ c → IsAsked l (AppendsRequest r) c.log c_new.log
-  asked_same same = subst (λ (d : Cursor L). IsAsked l (AppendsRequest r) c.log d.log) (sym same) (asked_nothing l (AppendsRequest r) c.log)
+  calls_grow : (May : ℕ → List ℕ → Type 0) (a b : L) (states : List L) → AreCalls l May a states b → Grows (lines a) (lines b)
+  calls_grow May a b [] same = subst (λ (x : L). Grows (lines a) (lines x)) (sym same) (grows_none (lines a))
+  calls_grow May a b (middle ∷ states) calls = grows_on (lines a) (lines middle) (lines b) (call_grows May a middle calls.0) (calls_grow May middle b states calls.1)
+
+  -- a log that was asked has grown
+  pub asked_grows : (May : ℕ → List ℕ → Type 0) (a b : L) → IsAsked l May a b → Grows (lines a) (lines b)
+  asked_grows May a b it = calls_grow May a b it.0 it.1
+
+  -- calls for a request, and then more calls for it, over a later history
+  pub asked_later : (h x : History) (r : Request) (a b c : L) → LeadsTo h x → IsAsked l (AppendsRequest (lines b) h r) a b → IsAsked l (AppendsRequest (lines c) x r) b c → IsAsked l (AppendsRequest (lines c) h r) a c
+  asked_later h x r a b c leads one more =
+      let May = AppendsRequest (lines c) h r in
+      let grown = asked_grows (AppendsRequest (lines c) x r) b c more in
+      asked_then l May a b c
+      (asked_weaker l (AppendsRequest (lines b) h r) May (λ n line it. appends_earlier (lines b) (lines c) h h r (leads_nowhere h) grown n line it) a b one)
+      (asked_weaker l (AppendsRequest (lines c) x r) May (λ n line it. appends_earlier (lines c) (lines c) h x r leads (grows_none (lines c)) n line it) b c more)
+
+  -- calls for a request, and then reads
+  pub asked_and_read : (h : History) (r : Request) (a b c : L) → IsAsked l (AppendsRequest (lines b) h r) a b → IsAsked l AppendsNothing b c → IsAsked l (AppendsRequest (lines c) h r) a c
+  asked_and_read h r a b c one reads = asked_later h h r a b c (leads_nowhere h) one (asked_anyway l (AppendsRequest (lines c) h r) b c reads)
+
+  module _ (c c_new : Cursor L) (h : History) (r : Request) (of : IsOfMachine (lines c.log) h) (at : c.next ≡ length (record_of h)) where
+    abbrev pub Asks : Type 0
+    Asks = IsAsked l (AppendsRequest (lines c_new.log) h r) c.log c_new.log
+
+    abbrev May : Deed → ℕ → List ℕ → Type 0
+    May deed n line = (n ≡ c.next) × (line ≡ accepted_line (accepted_as r (act_text deed.act)))
+
+    -- the next line is that of a request which is new
+    asks_new : (deed : Deed) → verdict h r ≡ New deed → IsAsked l (May deed) c.log c_new.log → Asks
+    asks_new deed new it =
+        let there = still_of (lines c.log) (lines c_new.log) h of (asked_grows (May deed) c.log c_new.log it) in
+        asked_weaker l (May deed) (AppendsRequest (lines c_new.log) h r)
+        (λ n line next. record { before = h; leads = leads_nowhere h; there = there; deed = deed; new = new; number = next.0 ∙ at; written = next.1 }) c.log c_new.log it
+
+    asked_same : c_new ≡ c → Asks
+    asked_same same = asked_to l (AppendsRequest (lines c_new.log) h r) c.log c_new.log (ap (λ (d : Cursor L). d.log) same)
+
+    asked_shown : (deed : Deed) → verdict h r ≡ New deed → WasShown l c c_new r (act_text deed.act) → Asks
+    asked_shown deed new it = asks_new deed new (asked_line l (May deed) c c_new (accepted_line (accepted_as r (act_text deed.act))) (refl, refl) (took_line l c c_new _ it.line))
+
+    -- a request was shown to the cursor, or was to be, if it is new
+    pub asked_if_shown : WasAskedIfNew c c_new h r (λ deed. WasShown l c c_new r (act_text deed.act)) → Asks
+    asked_if_shown (inl same) = asked_same same
+    asked_if_shown (inr (deed, new, shown)) = asked_shown deed new shown
+
+    pub asked_if_not : (fault : AppendFault) → WasAskedIfNew c c_new h r (λ deed. WasNotTaken l c c_new r (act_text deed.act) fault) → Asks
+    asked_if_not fault (inl same) = asked_same same
+    asked_if_not fault (inr (deed, new, it)) = asks_new deed new (asked_no_line l (May deed) c c_new (accepted_line (accepted_as r (act_text deed.act))) fault (refl, refl) it)
+
+    pub asked_by_fault : WasAskedIfNew c c_new h r (λ deed. (c_new ≡ c) ⊎ WasShown l c c_new r (act_text deed.act)) → Asks
+    asked_by_fault (inl same) = asked_same same
+    asked_by_fault (inr (deed, new, inl same)) = asked_same same
+    asked_by_fault (inr (deed, new, inr shown)) = asked_shown deed new shown

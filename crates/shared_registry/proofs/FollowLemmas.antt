@@ -1,5 +1,5 @@
 -- A registry that follows a log.
-use Rattle.std.proofs.Common.{◌≡◌, ◌≢◌, ◌≤◌, ◌<◌, ◌⊎◌, ◌∙◌, ◌+◌, ℕ, List, [], ◌∷◌, ◌++◌, length, drop, slice_get, Some, Bool, true, false, inl, inr, refl, sym, ap, subst, arith}
+use Rattle.std.proofs.Common.{◌≡◌, ◌≢◌, ◌≤◌, ◌<◌, ◌∙◌, ◌+◌, ℕ, List, [], ◌∷◌, ◌++◌, length, drop, slice_get, Some, Bool, true, false, inl, inr, refl, sym, ap, subst, arith}
 use Rattle.std.specs.Prelude.{nat_eq}
 use Rattle.std.proofs.lemmas.Bool.{eqb-false, eqb-true}
 use Rattle.std.proofs.lemmas.List.{append-nil, length-append}
@@ -12,8 +12,7 @@ use Rattle.registry_rules.proofs.RunLemmas.{legal_after}
 use Rattle.registry_laws.specs.Machines.{BeginsWith, IsOfMachine, LeadsTo}
 use Rattle.registry_laws.specs.Records.{record_of}
 use Rattle.registry_laws.proofs.MachineLemmas.{appended_twice}
-use Rattle.registry_tables.specs.Rows.{newest}
-use Rattle.registry_store.specs.Promise.{Leaves, Represents, state_of}
+use Rattle.registry_store.specs.Promise.{Represents, state_of}
 use Rattle.registry_store.specs.declared.registry.Registry.{Registry}
 use Rattle.shared_log.specs.Calls.{LogLines, AtSomeInstant, Grows, IsKept, IsPage}
 use Rattle.shared_log.specs.declared.answers.PageAnswer.{PageAnswer}
@@ -23,8 +22,8 @@ use Rattle.shared_log.specs.declared.log.Log.{Ghosts as LogGhosts}
 use Rattle.shared_registry.specs.declared.cursor.Cursor.{Cursor}
 use Rattle.shared_registry.specs.declared.stop.ShareStop.{ShareStop}
 use Rattle.shared_registry.specs.declared.stop.ShareStop.TheVariants as stops
-use Rattle.shared_registry.specs.Follows.{Follows, FollowsLater, HasFailed, HasFollowed, HasFollowedPage, HasGoneOn, IsLeft}
-use Rattle.shared_registry.specs.Lines.{Continues, GoesOver, IsStoppedBefore, IsStoppedIn}
+use Rattle.shared_registry.specs.Follows.{Follows, FollowsLater, HasFailed, HasFollowed, HasFollowedPage, HasGoneOn, IsLeft, LeavesOfMachine}
+use Rattle.shared_registry.specs.Lines.{GoesOver, IsStoppedBefore, IsStoppedIn, MayHaveGoneOn}
 use Rattle.shared_registry.proofs.LineLemmas.{leads_nowhere, leads_on, over_one}
 
 -- ---- lists that grow
@@ -113,20 +112,21 @@ grows_over log new h page front back it split =
     it.there.held ∙ ap (λ (l : LogLines). record_of h ++ (l ++ it.rest)) split ∙ ap (λ (l : LogLines). record_of h ++ l) (appended_twice front back it.rest) ∙ sym (appended_twice (record_of h) front (back ++ it.rest)) in
     grows_on (record_of h ++ front) it.there.instant new (back ++ it.rest, is) it.there.after
 
+-- what is left of a later history is left of an earlier one
+left_earlier : (s : State) (log : LogLines) (h now : History) → LeadsTo h now → LeavesOfMachine s log now → LeavesOfMachine s log h
+left_earlier s log h now leads it =
+    record { last = it.last; next = it.next; leads = leads_on h now it.last leads it.leads; goes_on = it.goes_on; last_of = it.last_of; next_of = it.next_of; leaves = it.leaves }
+
 module _ {L : Type 0} (l : LogGhosts L) (lines : L → LogLines) where
   -- what a crash may leave where the line may have been acted on
   left_one : (c_new : Cursor L) (s : State) (h last : History) (line : List ℕ) → LeadsTo h last → IsOfMachine (lines c_new.log) last → Grows (record_of last ++ line ∷ []) (lines c_new.log)
-      → Leaves newest s (λ x. (x ≡ last) ⊎ Continues last line x) → Leaves newest s (λ x. IsOfMachine (lines c_new.log) x × LeadsTo h x)
-  left_one c_new s h last line leads of grown leaves db may =
-      let it = leaves db may in
-      let x = it.0 in (
-        x,
-        elim it.1 [
-          | inl same ↦ (subst (IsOfMachine (lines c_new.log)) (sym same) of, subst (LeadsTo h) (sym same) leads)
-          | inr by ↦ (let over = over_one last by.0 line x by.1 in (of_machine (lines c_new.log) (lines c_new.log) last x (line ∷ []) of over grown, leads_on h last x leads over.leads))
-        ],
-        it.2,
-      )
+      → MayHaveGoneOn s last line → LeavesOfMachine s (lines c_new.log) h
+  left_one c_new s h last line leads of grown it =
+      let both : LeadsTo last it.next × IsOfMachine (lines c_new.log) it.next = elim it.goes_on [
+        | inl same ↦ (subst (LeadsTo last) (sym same) (leads_nowhere last), subst (IsOfMachine (lines c_new.log)) (sym same) of)
+        | inr by ↦ (let over = over_one last by.0 line it.next by.1 in (over.leads, of_machine (lines c_new.log) (lines c_new.log) last it.next (line ∷ []) of over grown))
+      ] in
+      record { last = last; next = it.next; leads = leads; goes_on = both.0; last_of = of; next_of = both.1; leaves = it.leaves }
 
   -- a call that failed later
   pub failed_since : (start c : L) (now : L) (fault : LogFault) → Grows (lines start) (lines c) → HasFailed l lines c now fault → HasFailed l lines start now fault
@@ -217,7 +217,7 @@ module _ {S : Type 0} {g : Ghosts S} {L : Type 0} (l : LogGhosts L) (lines : L �
 
   -- what a later call left is what the calls together left
   pub left_since : (start c : Cursor L) (new : Registry S g) (c_new : Cursor L) (h now : History) → Grows (lines start.log) (lines c.log) → LeadsTo h now → (stop : ShareStop) → IsLeft l lines c new c_new now stop → IsLeft l lines start new c_new h stop
-  left_since start c new c_new h now grown leads (stops.Registry fault) it = (it.0, λ db may. let x = it.1 db may in (x.0, (x.1.0, leads_on h now x.0 leads x.1.1), x.2))
+  left_since start c new c_new h now grown leads (stops.Registry fault) it = (it.0, left_earlier (state_of new) (lines c_new.log) h now leads it.1)
   left_since start c new c_new h now grown leads (stops.Log fault) it = ((it.0.0, leads_on h now it.0.0 leads it.0.1, it.0.2), failed_since l lines start.log c.log c_new.log fault grown it.1)
   left_since start c new c_new h now grown leads (stops.OtherRecord n) it = (
     it.0,

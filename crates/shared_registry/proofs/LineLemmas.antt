@@ -10,12 +10,11 @@ use Rattle.sqlite.specs.State.{State, HasCleanDisk}
 use Rattle.registry_rules.specs.Accepted.{accepted_by, accepted_of}
 use Rattle.registry_rules.specs.History.{History, with_deed}
 use Rattle.registry_rules.specs.Reply.{act_text}
-use Rattle.registry_rules.specs.Run.{after, after_one, after_verdict, reply_of, reply_to}
+use Rattle.registry_rules.specs.Run.{after, after_one, after_verdict, reply_to}
 use Rattle.registry_rules.specs.Verdict.{verdict}
 use Rattle.registry_rules.specs.declared.accepted.Accepted.{Accepted}
 use Rattle.registry_rules.specs.declared.deed.Deed.{Deed}
 use Rattle.registry_rules.specs.declared.order.Request.{Request}
-use Rattle.registry_rules.specs.declared.verdict.Reply.TheVariants.{Done}
 use Rattle.registry_rules.specs.declared.verdict.Verdict.{Verdict}
 use Rattle.registry_rules.specs.declared.verdict.Verdict.TheVariants.{Kept, Refused, New}
 use Rattle.registry_rules.proofs.RunLemmas.{new_is_of}
@@ -38,7 +37,7 @@ use Rattle.shared_registry.specs.declared.expecting.Unexpected.TheVariants.{NoMe
 use Rattle.shared_registry.specs.declared.stop.ShareStop.{ShareStop}
 use Rattle.shared_registry.specs.declared.stop.ShareStop.TheVariants as stops
 use Rattle.shared_registry.specs.Cursors.{accepted_as}
-use Rattle.shared_registry.specs.Lines.{Continues, ContinuesBy, GoesOver, IsExpected, IsStoppedAt, IsStoppedBefore, IsStoppedIn, IsUnexpected, LeadsToLine, stop_for}
+use Rattle.shared_registry.specs.Lines.{Continues, ContinuesBy, GoesOver, IsExpected, IsStoppedAt, IsStoppedBefore, IsStoppedIn, IsUnexpected, LeadsToLine, MayHaveGoneOn, stop_for}
 
 -- ---- one line
 
@@ -224,18 +223,23 @@ module _ (h : History) (r : Request) (old new : Expected) (fresh : old.is_it ≡
   unexpected it n NoMemory asked text missed now = now
 
   -- what a crash leaves is the history, or that to which the line leads
-  left_by : (x : History) (v : Verdict) → verdict h r ≡ v → x ≡ after_one h r → (text : List ℕ) → reply_to h r ≡ Done text → IsExpected old new r text → (x ≡ h) ⊎ Continues h old.line.now x
-  left_by x (Kept kept) is at text replied seen = inl (at ∙ ap (after_verdict h) is)
-  left_by x (Refused refusal) is at text replied seen = inl (at ∙ ap (after_verdict h) is)
-  left_by x (New deed) is at text replied seen =
-      let both : Done (act_text deed.act) ≡ Done text = sym (ap reply_of is) ∙ replied in
-      let same : act_text deed.act ≡ text = cc in
-      let by = continued h r deed old.line.now is (subst (λ (t : List ℕ). IsAccepted (accepted_as r t)) (sym same) seen.valid) (ap (λ (t : List ℕ). accepted_line (accepted_as r t)) same ∙ seen.same) in
-      inr (r, subst (ContinuesBy h r old.line.now) (sym (at ∙ after_new h r deed is)) by)
+  left_unseen : (s : State) → new ≡ old → Leaves newest s (λ x. (x ≡ h) ⊎ ((x ≡ after_one h r) × WasSeen IsExpected old new r (reply_to h r))) → MayHaveGoneOn s h old.line.now
+  left_unseen s same leaves = record {
+    next = h;
+    goes_on = inl refl;
+    leaves = λ db may. let it = leaves db may in (it.0, elim it.1 [ inl is ↦ inl is | inr seen ↦ absurd (untold true same seen.1.2.told) ], it.2);
+  }
 
-  left_either : (x : History) → (x ≡ h) ⊎ ((x ≡ after_one h r) × WasSeen IsExpected old new r (reply_to h r)) → (x ≡ h) ⊎ Continues h old.line.now x
-  left_either x (inl same) = inl same
-  left_either x (inr it) = left_by x (verdict h r) refl it.0 it.1.0 it.1.1 it.1.2
+  left_seen : (s : State) (deed : Deed) → verdict h r ≡ New deed → IsExpected old new r (act_text deed.act) → Leaves newest s (λ x. (x ≡ h) ⊎ ((x ≡ after_one h r) × WasSeen IsExpected old new r (reply_to h r)))
+      → MayHaveGoneOn s h old.line.now
+  left_seen s deed is seen leaves = record {
+    next = with_deed h deed;
+    goes_on = inr (r, continued h r deed old.line.now is seen.valid seen.same);
+    leaves = λ db may. let it = leaves db may in (it.0, elim it.1 [ inl at ↦ inl at | inr one ↦ inr (one.0 ∙ after_new h r deed is) ], it.2);
+  }
 
-  pub left : (s : State) → Leaves newest s (λ x. (x ≡ h) ⊎ ((x ≡ after_one h r) × WasSeen IsExpected old new r (reply_to h r))) → Leaves newest s (λ x. (x ≡ h) ⊎ Continues h old.line.now x)
-  left s leaves db may = let it = leaves db may in (it.0, left_either it.0 it.1, it.2)
+  pub left : (s : State) → WasAsked (λ deed. (new ≡ old) ⊎ IsExpected old new r (act_text deed.act)) → Leaves newest s (λ x. (x ≡ h) ⊎ ((x ≡ after_one h r) × WasSeen IsExpected old new r (reply_to h r)))
+      → MayHaveGoneOn s h old.line.now
+  left s (inl same) leaves = left_unseen s same leaves
+  left s (inr (deed, is, inl same)) leaves = left_unseen s same leaves
+  left s (inr (deed, is, inr seen)) leaves = left_seen s deed is seen leaves

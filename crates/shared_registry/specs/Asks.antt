@@ -1,8 +1,13 @@
 -- The calls that are made of a log.
-use Rattle.std.specs.Prelude.{◌≡◌, ◌⊎◌, ◌+◌, ℕ, List, [], ◌∷◌, slice_get, Some, Result, Ok, Err}
+use Rattle.std.specs.Prelude.{◌≡◌, ◌⊎◌, ◌+◌, ℕ, List, [], ◌∷◌, length, slice_get, Some, Result, Ok, Err}
 use Rattle.registry_rules.specs.History.{History}
+use Rattle.registry_rules.specs.Reply.{act_text}
+use Rattle.registry_rules.specs.Verdict.{verdict}
+use Rattle.registry_rules.specs.declared.deed.Deed.{Deed}
 use Rattle.registry_rules.specs.declared.order.Request.{Request}
+use Rattle.registry_rules.specs.declared.verdict.Verdict.TheVariants.{New}
 use Rattle.registry_wire.specs.Record.{accepted_line}
+use Rattle.registry_laws.specs.Machines.{IsOfMachine, LeadsTo}
 use Rattle.registry_laws.specs.Records.{record_of}
 use Rattle.shared_log.specs.Calls.{LogLines}
 use Rattle.shared_log.specs.declared.answers.AppendAnswer.{AppendAnswer}
@@ -16,9 +21,16 @@ use Rattle.shared_registry.specs.Cursors.{accepted_as}
 abbrev pub AppendsNothing : ℕ → List ℕ → Type 0
 AppendsNothing n line = ⊥
 
--- only the line of this request is, with some reply
-abbrev pub AppendsRequest : Request → ℕ → List ℕ → Type 0
-AppendsRequest r n line = (text : List ℕ) × (line ≡ accepted_line (accepted_as r text))
+-- Only the line of this request is, behind the record of a history that this one leads to and whose record begins the log. The request
+-- is new to that history, and the line has the reply to it.
+pub record AppendsRequest (log : LogLines) (h : History) (r : Request) (n : ℕ) (line : List ℕ) : Type 0 where
+  pub before : History
+  pub leads : LeadsTo h before
+  pub there : IsOfMachine log before
+  pub deed : Deed
+  pub new : verdict before r ≡ New deed
+  pub number : n ≡ length (record_of before)
+  pub written : line ≡ accepted_line (accepted_as r (act_text deed.act))
 
 -- only these lines are, from this number on
 abbrev pub AppendsLines : LogLines → ℕ → ℕ → List ℕ → Type 0

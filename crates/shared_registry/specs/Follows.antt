@@ -3,6 +3,7 @@
 -- `lines` is what the log keeps; that it keeps them is the premise `IsKept` of each clause.
 use Rattle.std.specs.Prelude.{◌≡◌, ◌≢◌, ◌⊎◌, ◌<◌, ℕ, true, false, List, [], length, slice_get, Option, Some, None, Bool}
 use Rattle.sqlite.specs.Store.{Ghosts}
+use Rattle.sqlite.specs.State.{State}
 use Rattle.registry_rules.specs.History.{History}
 use Rattle.registry_rules.specs.Run.{after_one, reply_to}
 use Rattle.registry_rules.specs.declared.order.Request.{Request}
@@ -10,6 +11,7 @@ use Rattle.registry_rules.specs.declared.verdict.Reply.{Reply}
 use Rattle.registry_laws.specs.Machines.{IsOfMachine, LeadsTo}
 use Rattle.registry_laws.specs.Records.{record_of}
 use Rattle.registry_tables.specs.Rows.{newest}
+use Rattle.registry_store.specs.Files.{IsEither}
 use Rattle.registry_store.specs.Promise.{Leaves, Represents, poisoned_by, state_of}
 use Rattle.registry_store.specs.declared.registry.Registry.{Registry}
 use Rattle.shared_log.specs.Calls.{LogLines, AtSomeInstant, Grows}
@@ -33,6 +35,17 @@ pub record HasOther (old new : LogLines) (h : History) (n : ℕ) : Type 0 where
   pub there : AtSomeInstant old new (λ log. slice_get log n ≡ Some line)
   pub other : (x : History) → ¬ Continues h line x
 
+-- A crash leaves one of two histories, of which the second is the first or goes on from it. This history leads to them, and the record of
+-- each begins the log.
+pub record LeavesOfMachine (s : State) (log : LogLines) (h : History) : Type 0 where
+  pub last : History
+  pub next : History
+  pub leads : LeadsTo h last
+  pub goes_on : LeadsTo last next
+  pub last_of : IsOfMachine log last
+  pub next_of : IsOfMachine log next
+  pub leaves : Leaves newest s (IsEither last next)
+
 module _ {L : Type 0} (l : LogGhosts L) (lines : L → LogLines) where
   -- The last call of the log got no answer; or the answer to a read had no line, and said that there were more.
   pub record HasFailed (start now : L) (fault : LogFault) : Type 0 where
@@ -54,7 +67,7 @@ module _ {S : Type 0} {g : Ghosts S} {L : Type 0} (l : LogGhosts L) (lines : L �
   module _ (c : Cursor L) (it_new : Registry S g) (c_new : Cursor L) (h : History) where
     -- What stopped a call, and what is left. Whatever it is, each history that a crash may leave begins the log.
     abbrev pub IsLeft : ShareStop → Type 0
-    IsLeft (stops.Registry fault) = (poisoned_by it_new ≡ Some fault) × Leaves newest (state_of it_new) (λ x. IsOfMachine (lines c_new.log) x × LeadsTo h x)
+    IsLeft (stops.Registry fault) = (poisoned_by it_new ≡ Some fault) × LeavesOfMachine (state_of it_new) (lines c_new.log) h
     IsLeft (stops.Log fault) = FollowsLater it_new c_new h × HasFailed l lines c.log c_new.log fault
     IsLeft (stops.OtherRecord n) = (x : History) × LeadsTo h x × Follows it_new c_new x × (n ≡ length (record_of x)) × HasOther (lines c.log) (lines c_new.log) x n
     IsLeft stops.Ahead = ⊥

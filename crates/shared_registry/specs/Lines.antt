@@ -1,6 +1,7 @@
 -- The lines of a log with which the record of a history goes on.
 use Rattle.std.specs.Prelude.{◌≡◌, ◌≢◌, ◌⊎◌, ◌+◌, ℕ, true, false, List, [], ◌∷◌, ◌++◌, length, Option, Some, None, Result, Ok, Err}
 use Rattle.sqlite.specs.Store.{Ghosts}
+use Rattle.sqlite.specs.State.{State}
 use Rattle.registry_rules.specs.Accepted.{accepted_by}
 use Rattle.registry_rules.specs.History.{History, with_deed}
 use Rattle.registry_rules.specs.Verdict.{verdict}
@@ -11,6 +12,7 @@ use Rattle.registry_wire.specs.Record.{accepted_line}
 use Rattle.registry_laws.specs.Machines.{HasValidFields, LeadsTo}
 use Rattle.registry_laws.specs.Records.{IsAccepted, record_of}
 use Rattle.registry_tables.specs.Rows.{newest}
+use Rattle.registry_store.specs.Files.{IsEither}
 use Rattle.registry_store.specs.Promise.{Leaves, Represents, poisoned_by, state_of}
 use Rattle.registry_store.specs.declared.fault.Fault.{Fault}
 use Rattle.registry_store.specs.declared.registry.Registry.{Registry}
@@ -33,6 +35,12 @@ pub record ContinuesBy (h : History) (r : Request) (line : List ℕ) (x : Histor
 -- the line is that of a request that is new to the history, and leads to that history
 abbrev pub Continues : History → List ℕ → History → Type 0
 Continues h line x = (r : Request) × ContinuesBy h r line x
+
+-- A crash leaves this history, or the next one, to which the line leads if it is another.
+pub record MayHaveGoneOn (s : State) (h : History) (line : List ℕ) : Type 0 where
+  pub next : History
+  pub goes_on : (next ≡ h) ⊎ Continues h line next
+  pub leaves : Leaves newest s (IsEither h next)
 
 -- The record of the second history is that of the first with these lines. Some requests lead from one to the other; if all fields
 -- of the first are valid, so are those of the second.
@@ -80,7 +88,7 @@ module _ {S : Type 0} {g : Ghosts S} (new : Registry S g) where
   -- What stopped the call at line n, and what is left: the history, or after a fault of the registry maybe the one to which the line leads.
   -- The line is refused only if it leads to no history so.
   abbrev pub IsStoppedAt : History → List ℕ → (History → Type 0) → ℕ → ShareStop → Type 0
-  IsStoppedAt h line LeadsSo n (stops.Registry fault) = (poisoned_by new ≡ Some fault) × Leaves newest (state_of new) (λ x. (x ≡ h) ⊎ Continues h line x)
+  IsStoppedAt h line LeadsSo n (stops.Registry fault) = (poisoned_by new ≡ Some fault) × MayHaveGoneOn (state_of new) h line
   IsStoppedAt h line LeadsSo n (stops.OtherRecord at) = (at ≡ n) × Represents new h × ((x : History) → ¬ LeadsSo x)
   IsStoppedAt h line LeadsSo n stops.NoMemory = Represents new h
   IsStoppedAt h line LeadsSo n (stops.Log fault) = ⊥

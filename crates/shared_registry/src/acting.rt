@@ -3,7 +3,7 @@
 ghost use Rattle.std.specs.Prelude.{◌≡◌, ◌<◌, ◌^◌, true, None, Err, IfErr, IfOk};
 ghost use Rattle.sqlite.specs.State.{HasCleanDisk};
 ghost use Rattle.registry_rules.specs.History.{History};
-ghost use Rattle.registry_store.specs.Promise.{Endures, NotesForeign, Represents, is_poisoned, state_of};
+ghost use Rattle.registry_store.specs.Promise.{Endures, NotesForeign, is_poisoned, state_of};
 ghost use Rattle.shared_log.specs.Calls.{IsKept, LogLines};
 ghost use Rattle.shared_registry.specs.Asks.{AppendsRequest, IsAsked};
 ghost use Rattle.shared_registry.specs.Lines.{fault_in};
@@ -28,7 +28,8 @@ fn try_to_act<S: Alter, L: Log>(
         → IfOk result (HasTried L.Log lines cursor.old registry.new cursor.new h request.now) }
     ensures err { (lines : L → LogLines) → IsKept L.Log lines → (h : History) → Follows L.Log lines registry.old cursor.old h → HasCleanDisk (state_of registry.new)
         → IfErr result (IsLeft L.Log lines cursor.old registry.new cursor.new h) }
-    ensures asks { (h : History) → Represents registry.old h → HasCleanDisk (state_of registry.new) → IsAsked L.Log (AppendsRequest request.now) cursor.old.log cursor.new.log }
+    ensures asks { (lines : L → LogLines) → IsKept L.Log lines → (h : History) → Follows L.Log lines registry.old cursor.old h → HasCleanDisk (state_of registry.new)
+        → IsAsked L.Log (AppendsRequest (lines cursor.new.log) h request.now) cursor.old.log cursor.new.log }
     ensures notes { NotesForeign registry.old registry.new (fault_in result) }
     ensures endures { Endures (state_of registry.old) (state_of registry.new) }
     ensures same_place { IfOk result (λ reply. reply ≡ None → cursor.new.next ≡ cursor.old.next) }
@@ -56,7 +57,8 @@ fn act_and_look<S: Alter, L: Log>(
         → IfOk result (HasTurned L.Log lines cursor.old registry.new cursor.new h request.now) }
     ensures err { (lines : L → LogLines) → IsKept L.Log lines → (h : History) → Follows L.Log lines registry.old cursor.old h → HasCleanDisk (state_of registry.new)
         → IfErr result (IsLeft L.Log lines cursor.old registry.new cursor.new h) }
-    ensures asks { (h : History) → Represents registry.old h → HasCleanDisk (state_of registry.new) → IsAsked L.Log (AppendsRequest request.now) cursor.old.log cursor.new.log }
+    ensures asks { (lines : L → LogLines) → IsKept L.Log lines → (h : History) → Follows L.Log lines registry.old cursor.old h → HasCleanDisk (state_of registry.new)
+        → IsAsked L.Log (AppendsRequest (lines cursor.new.log) h request.now) cursor.old.log cursor.new.log }
     ensures notes { NotesForeign registry.old registry.new (fault_in result) }
     ensures endures { Endures (state_of registry.old) (state_of registry.new) }
     ensures passes { IfOk result (λ reply. reply ≡ None → (cursor.old.next < cursor.new.next) × (cursor.new.next < 2 ^ 32)) }
@@ -100,9 +102,9 @@ pub fn act<S: Alter, L: Log>(
         → IfOk result (IsAnswered L.Log lines cursor.old registry.new cursor.new h request.now) }
     ensures err { (lines : L → LogLines) → IsKept L.Log lines → (h : History) → Follows L.Log lines registry.old cursor.old h → HasCleanDisk (state_of registry.new)
         → IfErr result (IsLeft L.Log lines cursor.old registry.new cursor.new h) }
-    // No other line is appended than that of the request, with some reply.
+    // No other line is appended than that of the request, with the reply that it gets.
     ensures asks { (lines : L → LogLines) → IsKept L.Log lines → (h : History) → Follows L.Log lines registry.old cursor.old h → HasCleanDisk (state_of registry.new)
-        → IsAsked L.Log (AppendsRequest request.now) cursor.old.log cursor.new.log }
+        → IsAsked L.Log (AppendsRequest (lines cursor.new.log) h request.now) cursor.old.log cursor.new.log }
     ensures notes { NotesForeign registry.old registry.new (fault_in result) }
     ensures endures { Endures (state_of registry.old) (state_of registry.new) }
 {

@@ -4,7 +4,8 @@
 //! store of each machine holds a beginning of the log. A registry *follows* a log (`Follows`) if it
 //! represents a history whose record begins the log, and its [`Cursor`] is behind that record.
 //! Whatever the calls below return, each history that a crash may leave in the store is such a
-//! history, and goes on from the one before the call (`IsLeft`). So the laws of `registry_laws` hold
+//! history, and goes on from the one before the call (`IsLeft`). After a fault of the registry there may be
+//! two such histories (`LeavesOfMachine`). So the laws of `registry_laws` hold
 //! of any two machines that share the log: one has the history of the other or goes on from it, and
 //! a number that has an owner on both has the same one.
 //!
@@ -43,8 +44,9 @@
 //!
 //! # What is appended
 //!
-//! A call appends no other line (`IsAsked`) than that of its request ([`act`]) or those of the record,
-//! each under its number ([`share`]). [`follow`], [`join`] and [`read_founding`] append nothing.
+//! [`act`] appends no other line (`IsAsked`) than that of its request, if it is new: behind the record, and
+//! with the reply that the request gets (`AppendsRequest`). [`share`] appends those of the record, each under
+//! its number. [`follow`], [`join`] and [`read_founding`] append nothing.
 //!
 //! # Premises
 //!

@@ -8,16 +8,14 @@ use Rattle.registry_commands.specs.Ends.{Sunk, output_of, sunk}
 use Rattle.registry_commands.proofs.ApplyLemmas.{endures_itself}
 use Rattle.shared_registry.specs.declared.stop.ShareStop.TheVariants as shares
 use Rattle.shared_commands.specs.declared.answering.AnswerStop.TheVariants as stops
-use Rattle.shared_registry.proofs.AskLemmas.{asked_nothing}
 use Rattle.shared_registry.proofs.LineLemmas.{clean_first, endures_then}
-use Rattle.shared_commands.specs.Answered.{AppendsOneOf, HasAnswered, TellsWrites}
-use Rattle.shared_commands.proofs.AnswerLemmas.{asked_on, none_answered, one_answered, some_answered}
+use Rattle.shared_commands.specs.Answered.{HasAnswered, TellsWrites}
+use Rattle.shared_commands.proofs.AnswerLemmas.{none_answered, one_answered, some_answered}
 use Rattle.shared_commands.proofs.answering.answer_all.Goals as goal
 
 pub loop-request-init : goal.loop-request-init
 loop-request-init g c = record {
   so_far = λ lines kept h follows clean. none_answered g.L.Log lines c.args.registry.now c.args.cursor.now h (sunk g.W.Sink c.args.output.now) follows;
-  asks = λ lines kept h follows clean. asked_nothing g.L.Log (AppendsOneOf c.args.requests.now) c.args.cursor.now.log;
   when_poisoned = λ e. (refl, refl, refl);
   kept = refl;
   notes = refl;
@@ -29,12 +27,8 @@ loop-request-preserved g c = record {
   so_far = λ lines kept h follows clean.
       let so_far = c.loop-request.invariant.so_far lines kept h follows (clean_first (state_of c.loop-request.registry) (state_of c.answer.new.registry) c.in-Ok.ensures.endures clean) in
       one_answered g.L.Log lines c.args.cursor.now h c.args.requests.now c.loop-request.request-index c.request-item.result c.loop-request-test.true c.request-item.is c.loop-request.registry c.loop-request.cursor
-      (sunk g.W.Sink c.args.output.now) (sunk g.W.Sink c.loop-request.output) (sunk g.W.Sink c.answer.new.output) so_far c.answer.new.registry c.answer.new.cursor c.in-Ok._status (c.in-Ok.ensures.ok lines kept so_far.next so_far.follows clean);
-  asks = λ lines kept h follows clean.
-      let first = clean_first (state_of c.loop-request.registry) (state_of c.answer.new.registry) c.in-Ok.ensures.endures clean in
-      let so_far = c.loop-request.invariant.so_far lines kept h follows first in
-      asked_on g.L.Log c.args.requests.now c.loop-request.request-index c.request-item.result c.args.cursor.now.log c.loop-request.cursor.log c.answer.new.cursor.log c.loop-request-test.true c.request-item.is
-      (c.loop-request.invariant.asks lines kept h follows first) (c.in-Ok.ensures.asks lines kept so_far.next so_far.follows clean);
+      (sunk g.W.Sink c.args.output.now) (sunk g.W.Sink c.loop-request.output) (sunk g.W.Sink c.answer.new.output) so_far c.answer.new.registry c.answer.new.cursor (c.in-Ok.ensures.asks lines kept so_far.next so_far.follows clean) c.in-Ok._status
+      (c.in-Ok.ensures.ok lines kept so_far.next so_far.follows clean);
   when_poisoned = λ e. let before = c.loop-request.invariant.when_poisoned e in absurd (let failed = c.in-Ok.ensures.when_poisoned (ap is_poisoned before.0 ∙ e) in cc failed.0);
   kept = c.in-Ok.ensures.kept ∙ c.loop-request.invariant.kept;
   notes = notes_then c.args.registry.now c.loop-request.registry c.answer.new.registry None c.loop-request.invariant.notes c.in-Ok.ensures.notes;
@@ -52,14 +46,8 @@ pub returns-in-Err-clause-err : goal.returns-in-Err-clause-err
 returns-in-Err-clause-err g c lines kept h follows clean =
     let so_far = c.loop-request.invariant.so_far lines kept h follows (clean_first (state_of c.loop-request.registry) (state_of c.answer.new.registry) c.in-Err.ensures.endures clean) in
     some_answered g.L.Log lines c.args.cursor.now h c.args.requests.now c.loop-request.request-index c.request-item.result c.loop-request-test.true c.request-item.is c.loop-request.registry c.loop-request.cursor
-    (sunk g.W.Sink c.args.output.now) (sunk g.W.Sink c.loop-request.output) (sunk g.W.Sink c.answer.new.output) so_far c.answer.new.registry c.answer.new.cursor c.in-Err.stop (c.in-Err.ensures.err lines kept so_far.next so_far.follows clean)
-
-pub returns-in-Err-clause-asks : goal.returns-in-Err-clause-asks
-returns-in-Err-clause-asks g c lines kept h follows clean =
-    let first = clean_first (state_of c.loop-request.registry) (state_of c.answer.new.registry) c.in-Err.ensures.endures clean in
-    let so_far = c.loop-request.invariant.so_far lines kept h follows first in
-    asked_on g.L.Log c.args.requests.now c.loop-request.request-index c.request-item.result c.args.cursor.now.log c.loop-request.cursor.log c.answer.new.cursor.log c.loop-request-test.true c.request-item.is
-    (c.loop-request.invariant.asks lines kept h follows first) (c.in-Err.ensures.asks lines kept so_far.next so_far.follows clean)
+    (sunk g.W.Sink c.args.output.now) (sunk g.W.Sink c.loop-request.output) (sunk g.W.Sink c.answer.new.output) so_far c.answer.new.registry c.answer.new.cursor (c.in-Err.ensures.asks lines kept so_far.next so_far.follows clean) c.in-Err.stop
+    (c.in-Err.ensures.err lines kept so_far.next so_far.follows clean)
 
 pub returns-in-Err-clause-writes : goal.returns-in-Err-clause-writes
 returns-in-Err-clause-writes g c = subst (λ (n : ℕ). TellsWrites n (g.W.Sink.failures c.answer.new.output) c.in-Err.stop) c.loop-request.invariant.kept c.in-Err.ensures.writes

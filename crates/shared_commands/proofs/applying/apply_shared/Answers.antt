@@ -5,11 +5,10 @@ use Rattle.shared_commands.proofs.applying.apply_shared.Goals as goal
 
 pub returns-in-Ok : goal.returns-in-Ok
 returns-in-Ok g c =
-    let read = c.in-Ok.ensures in
-    let rest = rw c.after_first.ensures at c.run_over.ensures in (
+    let read = c.in-Ok.ensures in (
       read.0,
       read.1,
-      inr (c.as_slice.result.now, rw c.as_slice.ensures.value read.2.0, rw c.as_slice.ensures.value read.2.1, rw read.2.2 at rest),
+      (let rest = rw c.after_first.ensures at c.run_over.ensures in inr (c.as_slice.result.now, rw c.as_slice.ensures.value read.2.0, rw c.as_slice.ensures.value read.2.1, rw read.2.2 at rest)),
       λ long. absurd (let failed = read.4 long in cc failed),
       elim read.5 [ inl same ↦ inl same | inr it ↦ absurd (let failed = it.0 in cc failed) ],
     )

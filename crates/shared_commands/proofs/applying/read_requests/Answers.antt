@@ -1,4 +1,4 @@
-use Rattle.std.proofs.Common.{◌≡◌, inl, inr, refl, subst, sym, ap}
+use Rattle.std.proofs.Common.{inl, subst, sym, ap}
 use Rattle.std.specs.Prelude.{Err}
 use Rattle.registry_commands.specs.declared.messages.Failure.{Failure}
 use Rattle.registry_commands.specs.Ends.{output_of}

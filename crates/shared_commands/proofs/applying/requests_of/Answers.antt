@@ -1,4 +1,4 @@
-use Rattle.std.proofs.Common.{inl, inr, refl}
+use Rattle.std.proofs.Common.{refl}
 use Rattle.registry_commands.specs.declared.messages.Failure.TheVariants.{Memory}
 use Rattle.registry_commands.specs.Ends.{output_of}
 use Rattle.registry_commands.specs.Failures.{IsOfMemory}

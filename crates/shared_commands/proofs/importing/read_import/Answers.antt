@@ -1,4 +1,4 @@
-use Rattle.std.proofs.Common.{◌≡◌, ℕ, List, [], inl, inr, refl, subst, ap}
+use Rattle.std.proofs.Common.{List, [], inl, inr, subst, ap}
 use Rattle.std.specs.Prelude.{Result, Err}
 use Rattle.std.proofs.lemmas.Result.{IfOk-weaker}
 use Rattle.usbids_text.specs.declared.fault.ReadFault.{ReadFault}

@@ -1,4 +1,4 @@
-use Rattle.std.proofs.Common.{◌≡◌, inl, inr, refl}
+use Rattle.std.proofs.Common.{inl, inr}
 use Rattle.std.proofs.lemmas.Result.{IfOk-weaker}
 use Rattle.registry_commands.proofs.FailureLemmas.{if_err}
 use Rattle.shared_commands.proofs.importing.request_in.Goals as goal

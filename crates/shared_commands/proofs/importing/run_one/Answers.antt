@@ -1,4 +1,4 @@
-use Rattle.std.proofs.Common.{inl, inr, refl, ap}
+use Rattle.std.proofs.Common.{inl, inr, refl}
 use Rattle.shared_commands.proofs.importing.run_one.Goals as goal
 
 pub returns-in-Ok : goal.returns-in-Ok

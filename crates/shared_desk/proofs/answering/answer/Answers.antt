@@ -18,4 +18,4 @@ pub returns-in-Ok-clause-asks : goal.returns-in-Ok-clause-asks
 returns-in-Ok-clause-asks g c lines kept h follows clean = rw c.in-Ok.is (c.answer_message.ensures.asks lines kept h follows clean)
 
 pub returns-in-Err-clause-asks : goal.returns-in-Err-clause-asks
-returns-in-Err-clause-asks g c lines kept h follows clean = asked_nothing g.L.Log (AppendsOrder c.args.said.now) c.args.cursor.now.log
+returns-in-Err-clause-asks g c lines kept h follows clean = asked_nothing g.L.Log (AppendsOrder (lines c.args.cursor.now.log) h c.args.said.now) c.args.cursor.now.log

@@ -19,9 +19,9 @@ pub returns-in-Request-clause-err : goal.returns-in-Request-clause-err
 returns-in-Request-clause-err g c lines kept h follows clean = IfErr-weaker c.act_on_order.result _ _ (λ stop left. inl left) (c.act_on_order.ensures.err lines kept h follows clean)
 
 pub returns-in-Query-clause-asks : goal.returns-in-Query-clause-asks
-returns-in-Query-clause-asks g c lines kept h follows clean = asked_anyway g.L.Log (AppendsOrder (Ok c.args.message.now)) c.args.cursor.now.log c.answer_after_following.new.cursor.log c.answer_after_following.ensures.asks
+returns-in-Query-clause-asks g c lines kept h follows clean = asked_anyway g.L.Log (AppendsOrder (lines c.answer_after_following.new.cursor.log) h (Ok c.args.message.now)) c.args.cursor.now.log c.answer_after_following.new.cursor.log c.answer_after_following.ensures.asks
 
 pub returns-in-Request-clause-asks : goal.returns-in-Request-clause-asks
 returns-in-Request-clause-asks g c lines kept h follows clean =
-    asked_weaker g.L.Log (AppendsRequest c.in-Request.request) (AppendsOrder (Ok c.args.message.now)) (λ n line it. (c.in-Request.request, ap Ok c.in-Request.is, it))
+    asked_weaker g.L.Log (AppendsRequest (lines c.act_on_order.new.cursor.log) h c.in-Request.request) (AppendsOrder (lines c.act_on_order.new.cursor.log) h (Ok c.args.message.now)) (λ n line it. (c.in-Request.request, ap Ok c.in-Request.is, it))
     c.args.cursor.now.log c.act_on_order.new.cursor.log (c.act_on_order.ensures.asks lines kept h follows clean)

@@ -38,7 +38,9 @@ returns-clause-served g c =
             turned_away c.args.registry.now c.answer-done.new.registry c.args.cursor.now c.answer-done.new.cursor c.founding.result.now.vendor says.0 c.match-read_message.said c.answer-done.result told.0 stop says.2 done.refused (done.when_poisoned poisoned)
             told.1,
         λ lines kept h follows clean.
-            asked_weaker g.L.Log (AppendsOrder c.match-read_message.said) (AppendsOrderIn says.0) (λ n line it. (c.founding.result.now.vendor, c.match-read_message.said, says.2, it))
+            let here = subst (λ (founding : ℕ). Says founding says.0 c.match-read_message.said) (c.founding.ensures h follows.represents).vendor says.2 in
+            let log = lines c.answer-done.new.cursor.log in
+            asked_weaker g.L.Log (AppendsOrder log h c.match-read_message.said) (AppendsOrderIn log h says.0) (λ n line it. (c.match-read_message.said, here, it))
             c.args.cursor.now.log c.answer-done.new.cursor.log (done.asks lines kept h follows clean),
       ),
     )
@@ -65,6 +67,6 @@ returns-in-Err-NoMemory-clause-served g c =
         refl,
         λ lines kept h follows clean of. (inl (h, leads_nowhere h, follows), c.clear.ensures),
         λ poisoned. (inr refl, refl, refl),
-        λ lines kept h follows clean. asked_nothing g.L.Log (AppendsOrderIn all.0) c.args.cursor.now.log,
+        λ lines kept h follows clean. asked_nothing g.L.Log (AppendsOrderIn (lines c.args.cursor.now.log) h all.0) c.args.cursor.now.log,
       ),
     )

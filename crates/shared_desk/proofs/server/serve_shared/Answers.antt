@@ -9,13 +9,14 @@ use Rattle.registry_desk.proofs.ServerLemmas.{length_more, visited_more}
 use Rattle.shared_registry.proofs.AskLemmas.{asked_nothing}
 use Rattle.shared_desk.specs.Asks.{AppendsOrdersIn}
 use Rattle.shared_desk.specs.Server.{IsTurnedAwayAt}
-use Rattle.shared_desk.proofs.ServerLemmas.{all_more, asked_more, ended_by, ends_after, follows_more}
+use Rattle.shared_desk.proofs.ServerLemmas.{all_more, ended_by, ends_after, follows_more}
+use Rattle.shared_desk.proofs.TurnLemmas.{asked_more}
 use Rattle.shared_desk.proofs.server.serve_shared.Goals as goal
 
 pub loop-init : goal.loop-init
 loop-init g c = record {
   endures = search rules;
-  served = ([], refl, refl, λ lines kept h follows clean. (h, (refl, refl), follows, none_are h c.new-cache.result c.new-cache.ensures), λ poisoned. (All-nil IsTurnedAwayAt, refl, refl), λ lines kept h follows clean. asked_nothing g.L.Log (AppendsOrdersIn []) c.args.cursor.now.log);
+  served = ([], refl, refl, λ lines kept h follows clean. (h, (refl, refl), follows, none_are h c.new-cache.result c.new-cache.ensures), λ poisoned. (All-nil IsTurnedAwayAt, refl, refl), λ lines kept h follows clean. asked_nothing g.L.Log (AppendsOrdersIn (lines c.args.cursor.now.log) h []) c.args.cursor.now.log);
   notes = refl;
 }
 
@@ -40,7 +41,7 @@ loop-preserved g c =
         λ lines kept h follows clean.
             let early : HasCleanDisk (state_of c.loop.registry) = omega (arith, c.serve_beside.ensures.endures.clean, clean) in
             let before = so_far.3 lines kept h follows early in
-            asked_more g.L.Log so_far.0 came.0 c.args.cursor.now.log c.loop.cursor.log c.serve_beside.new.cursor.log (so_far.5 lines kept h follows early) (came.5 lines kept before.0 before.2 clean),
+            asked_more g.L.Log lines kept c.args.cursor.now h so_far.0 c.loop.cursor before.0 before.1 came.0 c.serve_beside.new.cursor (so_far.5 lines kept h follows early) (came.5 lines kept before.0 before.2 clean),
       );
       notes = notes_then c.args.registry.now c.loop.registry c.serve_beside.new.registry None c.loop.invariant.notes c.in-Ok.ensures.notes;
     }

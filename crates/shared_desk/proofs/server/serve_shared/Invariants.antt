@@ -22,6 +22,6 @@ invariant-loop g l = record {
       × (length visits ≡ l.counter)
       × ((lines : g.row.L.Denot → LogLines) → IsKept g.L.Log lines → (h : History) → Follows g.L.Log lines l.initial.registry l.initial.cursor h → HasCleanDisk (state_of l.registry) → FollowsBeside g.L.Log lines l.initial.cursor h l.registry l.cursor l.cache visits)
       × (is_poisoned l.initial.registry ≡ true → All IsTurnedAwayAt visits × (l.registry ≡ l.initial.registry) × (l.cursor ≡ l.initial.cursor))
-      × ((lines : g.row.L.Denot → LogLines) → IsKept g.L.Log lines → (h : History) → Follows g.L.Log lines l.initial.registry l.initial.cursor h → HasCleanDisk (state_of l.registry) → IsAsked g.L.Log (AppendsOrdersIn visits) l.initial.cursor.log l.cursor.log);
+      × ((lines : g.row.L.Denot → LogLines) → IsKept g.L.Log lines → (h : History) → Follows g.L.Log lines l.initial.registry l.initial.cursor h → HasCleanDisk (state_of l.registry) → IsAsked g.L.Log (AppendsOrdersIn (lines l.cursor.log) h visits) l.initial.cursor.log l.cursor.log);
   notes : NotesForeign l.initial.registry l.registry None;
 }

@@ -1,11 +1,10 @@
-use Rattle.std.proofs.Common.{None, arith}
+use Rattle.std.proofs.Common.{None}
 use Rattle.registry_store.specs.Promise.{state_of}
 use Rattle.registry_store.proofs.IsQueryLemmas.{notes_then}
 use Rattle.shared_registry.proofs.ActLemmas.{answered_later, gone_further}
-use Rattle.shared_registry.proofs.FollowLemmas.{gone_nowhere, left_later}
+use Rattle.shared_registry.proofs.FollowLemmas.{left_later}
 use Rattle.shared_registry.proofs.LineLemmas.{clean_first, endures_then}
-use Rattle.shared_registry.specs.Asks.{AppendsRequest}
-use Rattle.shared_registry.proofs.AskLemmas.{asked_nothing, asked_then}
+use Rattle.shared_registry.proofs.AskLemmas.{asked_later}
 use Rattle.shared_registry.proofs.acting.act.Goals as goal
 
 pub returns-in-Ok-Some-clause-ok : goal.returns-in-Ok-Some-clause-ok
@@ -28,8 +27,8 @@ loop-reply-preserved g c = record {
   asks = λ lines kept h follows clean.
       let first = clean_first (state_of c.loop-reply.registry) (state_of c.act_and_look.new.registry) c.in-Ok-None.ensures.endures clean in
       let so_far = c.loop-reply.invariant.so_far lines kept h follows first in
-      asked_then g.L.Log (AppendsRequest c.args.request.now) c.args.cursor.now.log c.loop-reply.cursor.log c.act_and_look.new.cursor.log (c.loop-reply.invariant.asks lines kept h follows first)
-      (c.in-Ok-None.ensures.asks so_far.now so_far.follows.represents clean);
+      asked_later g.L.Log lines kept h so_far.now c.args.request.now c.args.cursor.now.log c.loop-reply.cursor.log c.act_and_look.new.cursor.log so_far.leads (c.loop-reply.invariant.asks lines kept h follows first)
+      (c.in-Ok-None.ensures.asks lines kept so_far.now so_far.follows clean);
   notes = notes_then c.args.registry.now c.loop-reply.registry c.act_and_look.new.registry None c.loop-reply.invariant.notes c.in-Ok-None.ensures.notes;
   endures = endures_then (state_of c.args.registry.now) (state_of c.loop-reply.registry) (state_of c.act_and_look.new.registry) c.loop-reply.invariant.endures c.in-Ok-None.ensures.endures;
 }
@@ -38,10 +37,12 @@ pub returns-in-Ok-Some-clause-asks : goal.returns-in-Ok-Some-clause-asks
 returns-in-Ok-Some-clause-asks g c lines kept h follows clean =
     let first = clean_first (state_of c.loop-reply.registry) (state_of c.act_and_look.new.registry) c.in-Ok-Some.ensures.endures clean in
     let so_far = c.loop-reply.invariant.so_far lines kept h follows first in
-    asked_then g.L.Log (AppendsRequest c.args.request.now) c.args.cursor.now.log c.loop-reply.cursor.log c.act_and_look.new.cursor.log (c.loop-reply.invariant.asks lines kept h follows first) (c.in-Ok-Some.ensures.asks so_far.now so_far.follows.represents clean)
+    asked_later g.L.Log lines kept h so_far.now c.args.request.now c.args.cursor.now.log c.loop-reply.cursor.log c.act_and_look.new.cursor.log so_far.leads (c.loop-reply.invariant.asks lines kept h follows first)
+    (c.in-Ok-Some.ensures.asks lines kept so_far.now so_far.follows clean)
 
 pub returns-in-Err-clause-asks : goal.returns-in-Err-clause-asks
 returns-in-Err-clause-asks g c lines kept h follows clean =
     let first = clean_first (state_of c.loop-reply.registry) (state_of c.act_and_look.new.registry) c.in-Err.ensures.endures clean in
     let so_far = c.loop-reply.invariant.so_far lines kept h follows first in
-    asked_then g.L.Log (AppendsRequest c.args.request.now) c.args.cursor.now.log c.loop-reply.cursor.log c.act_and_look.new.cursor.log (c.loop-reply.invariant.asks lines kept h follows first) (c.in-Err.ensures.asks so_far.now so_far.follows.represents clean)
+    asked_later g.L.Log lines kept h so_far.now c.args.request.now c.args.cursor.now.log c.loop-reply.cursor.log c.act_and_look.new.cursor.log so_far.leads (c.loop-reply.invariant.asks lines kept h follows first)
+    (c.in-Err.ensures.asks lines kept so_far.now so_far.follows clean)

@@ -1,9 +1,8 @@
-use Rattle.std.proofs.Common.{◌≡◌, ◌≢◌, ◌≤◌, None, Some, refl, sym, arith}
+use Rattle.std.proofs.Common.{arith}
 use Rattle.registry_rules.specs.Run.{after_one}
 use Rattle.registry_store.specs.Promise.{state_of}
-use Rattle.shared_registry.specs.Asks.{AppendsRequest}
 use Rattle.shared_registry.proofs.ActLemmas.{answered_then, followed_gone, tried_gone, turned_now}
-use Rattle.shared_registry.proofs.AskLemmas.{asked_anyway, asked_then}
+use Rattle.shared_registry.proofs.AskLemmas.{asked_and_read}
 use Rattle.shared_registry.proofs.FollowLemmas.{followed_again, left_later, shows_line}
 use Rattle.shared_registry.proofs.LineLemmas.{clean_first}
 use Rattle.shared_registry.proofs.acting.act_and_look.Goals as goal
@@ -42,25 +41,21 @@ returns-in-None-clause-err g c lines kept h follows clean =
     absurd (omega (arith, shown, same, stays))
 
 pub returns-in-Err-follow-clause-asks : goal.returns-in-Err-follow-clause-asks
-returns-in-Err-follow-clause-asks g c h stands clean =
+returns-in-Err-follow-clause-asks g c lines kept h follows clean =
     let middle = clean_first (state_of c.try_to_act.new.registry) (state_of c.follow.new.registry) c.in-Err-follow.ensures.endures clean in
-    asked_then g.L.Log (AppendsRequest c.args.request.now) c.args.cursor.now.log c.try_to_act.new.cursor.log c.follow.new.cursor.log (c.in-Ok.ensures.asks h stands middle)
-    (asked_anyway g.L.Log (AppendsRequest c.args.request.now) c.try_to_act.new.cursor.log c.follow.new.cursor.log c.in-Err-follow.ensures.asks)
+    asked_and_read g.L.Log lines kept h c.args.request.now c.args.cursor.now.log c.try_to_act.new.cursor.log c.follow.new.cursor.log (c.in-Ok.ensures.asks lines kept h follows middle) c.in-Err-follow.ensures.asks
 
 pub returns-then-cursor-before-2-clause-asks : goal.returns-then-cursor-before-2-clause-asks
-returns-then-cursor-before-2-clause-asks g c h stands clean =
+returns-then-cursor-before-2-clause-asks g c lines kept h follows clean =
     let middle = clean_first (state_of c.try_to_act.new.registry) (state_of c.follow.new.registry) c.in_default.ensures.endures clean in
-    asked_then g.L.Log (AppendsRequest c.args.request.now) c.args.cursor.now.log c.try_to_act.new.cursor.log c.follow.new.cursor.log (c.in-Ok.ensures.asks h stands middle)
-    (asked_anyway g.L.Log (AppendsRequest c.args.request.now) c.try_to_act.new.cursor.log c.follow.new.cursor.log c.in_default.ensures.asks)
+    asked_and_read g.L.Log lines kept h c.args.request.now c.args.cursor.now.log c.try_to_act.new.cursor.log c.follow.new.cursor.log (c.in-Ok.ensures.asks lines kept h follows middle) c.in_default.ensures.asks
 
 pub returns-in-Some-clause-asks : goal.returns-in-Some-clause-asks
-returns-in-Some-clause-asks g c h stands clean =
+returns-in-Some-clause-asks g c lines kept h follows clean =
     let middle = clean_first (state_of c.try_to_act.new.registry) (state_of c.follow.new.registry) c.in_default.ensures.endures clean in
-    asked_then g.L.Log (AppendsRequest c.args.request.now) c.args.cursor.now.log c.try_to_act.new.cursor.log c.follow.new.cursor.log (c.in-Ok.ensures.asks h stands middle)
-    (asked_anyway g.L.Log (AppendsRequest c.args.request.now) c.try_to_act.new.cursor.log c.follow.new.cursor.log c.in_default.ensures.asks)
+    asked_and_read g.L.Log lines kept h c.args.request.now c.args.cursor.now.log c.try_to_act.new.cursor.log c.follow.new.cursor.log (c.in-Ok.ensures.asks lines kept h follows middle) c.in_default.ensures.asks
 
 pub returns-in-None-clause-asks : goal.returns-in-None-clause-asks
-returns-in-None-clause-asks g c h stands clean =
+returns-in-None-clause-asks g c lines kept h follows clean =
     let middle = clean_first (state_of c.try_to_act.new.registry) (state_of c.follow.new.registry) c.in_default.ensures.endures clean in
-    asked_then g.L.Log (AppendsRequest c.args.request.now) c.args.cursor.now.log c.try_to_act.new.cursor.log c.follow.new.cursor.log (c.in-Ok.ensures.asks h stands middle)
-    (asked_anyway g.L.Log (AppendsRequest c.args.request.now) c.try_to_act.new.cursor.log c.follow.new.cursor.log c.in_default.ensures.asks)
+    asked_and_read g.L.Log lines kept h c.args.request.now c.args.cursor.now.log c.try_to_act.new.cursor.log c.follow.new.cursor.log (c.in-Ok.ensures.asks lines kept h follows middle) c.in_default.ensures.asks

@@ -1,4 +1,3 @@
-use Rattle.std.proofs.Common.{inl, inr}
 use Rattle.registry_laws.specs.Records.{record_of}
 use Rattle.registry_store.specs.Promise.{state_of}
 use Rattle.registry_wire.specs.Record.{accepted_line}
@@ -6,7 +5,7 @@ use Rattle.shared_registry.specs.declared.cursor.AppendFault.TheVariants as faul
 use Rattle.shared_registry.specs.Cursors.{accepted_as}
 use Rattle.shared_registry.proofs.ActLemmas.{acted, failed_now, grown_acted, left_acted, unacted, unacted_later, whole_acted}
 use Rattle.shared_registry.proofs.AppendLemmas.{no_line_grows, other_is_there}
-use Rattle.shared_registry.proofs.AskLemmas.{asked_same, asked_shown, asked_unshown}
+use Rattle.shared_registry.proofs.AskLemmas.{asked_by_fault, asked_if_not, asked_if_shown}
 use Rattle.shared_registry.proofs.acting.try_to_act.Goals as goal
 
 pub returns-in-Ok-clause-ok : goal.returns-in-Ok-clause-ok
@@ -51,41 +50,34 @@ returns-in-Err-Unwitnessed-Log-clause-err g c lines kept h follows clean =
     )
 
 pub returns-in-Ok-clause-asks : goal.returns-in-Ok-clause-asks
-returns-in-Ok-clause-asks g c h stands clean = elim (c.in-Ok.ensures.asked h stands clean) [
-  | inl same ↦ asked_same g.L.Log c.args.cursor.now c.act_before.new.witness c.args.request.now same
-  | inr it ↦ asked_shown g.L.Log c.args.cursor.now c.act_before.new.witness c.args.request.now _ it.2
-]
+returns-in-Ok-clause-asks g c lines kept h follows clean =
+    asked_if_shown g.L.Log lines kept c.args.cursor.now c.act_before.new.witness h c.args.request.now follows.of_machine follows.next (c.in-Ok.ensures.asked h follows.represents clean)
 
 pub returns-in-Err-Fault-clause-asks : goal.returns-in-Err-Fault-clause-asks
-returns-in-Err-Fault-clause-asks g c h stands clean = elim (rw c.in-Err-Fault.field-0-is at (c.in-Err-Fault.ensures.asked h stands clean)) [
-  | inl same ↦ asked_same g.L.Log c.args.cursor.now c.act_before.new.witness c.args.request.now same
-  | inr it ↦ elim it.2 [
-    | inl same ↦ asked_same g.L.Log c.args.cursor.now c.act_before.new.witness c.args.request.now same
-    | inr shown ↦ asked_shown g.L.Log c.args.cursor.now c.act_before.new.witness c.args.request.now _ shown
-  ]
-]
+returns-in-Err-Fault-clause-asks g c lines kept h follows clean =
+    asked_by_fault g.L.Log lines kept c.args.cursor.now c.act_before.new.witness h c.args.request.now follows.of_machine follows.next (rw c.in-Err-Fault.field-0-is at (c.in-Err-Fault.ensures.asked h follows.represents clean))
 
 pub returns-in-Err-Unwitnessed-Taken-clause-asks : goal.returns-in-Err-Unwitnessed-Taken-clause-asks
-returns-in-Err-Unwitnessed-Taken-clause-asks g c h stands clean =
-    let missed = rw (c.in-Err-Unwitnessed-Taken.field-0-is, c.in-Err-Unwitnessed-Taken.field-0-0-is) at c.in-Err-Unwitnessed-Taken.ensures.missed in
-    asked_unshown g.L.Log c.args.cursor.now c.act_before.new.witness c.args.request.now missed.0 faults.Taken missed.1
+returns-in-Err-Unwitnessed-Taken-clause-asks g c lines kept h follows clean =
+    asked_if_not g.L.Log lines kept c.args.cursor.now c.act_before.new.witness h c.args.request.now follows.of_machine follows.next faults.Taken
+    (rw (c.in-Err-Unwitnessed-Taken.field-0-is, c.in-Err-Unwitnessed-Taken.field-0-0-is) at (c.in-Err-Unwitnessed-Taken.ensures.asked h follows.represents clean))
 
 pub returns-in-Err-Unwitnessed-Behind-clause-asks : goal.returns-in-Err-Unwitnessed-Behind-clause-asks
-returns-in-Err-Unwitnessed-Behind-clause-asks g c h stands clean =
-    let missed = rw (c.in-Err-Unwitnessed-Behind.field-0-is, c.in-Err-Unwitnessed-Behind.field-0-0-is) at c.in-Err-Unwitnessed-Behind.ensures.missed in
-    asked_unshown g.L.Log c.args.cursor.now c.act_before.new.witness c.args.request.now missed.0 faults.Behind missed.1
+returns-in-Err-Unwitnessed-Behind-clause-asks g c lines kept h follows clean =
+    asked_if_not g.L.Log lines kept c.args.cursor.now c.act_before.new.witness h c.args.request.now follows.of_machine follows.next faults.Behind
+    (rw (c.in-Err-Unwitnessed-Behind.field-0-is, c.in-Err-Unwitnessed-Behind.field-0-0-is) at (c.in-Err-Unwitnessed-Behind.ensures.asked h follows.represents clean))
 
 pub returns-in-Err-Unwitnessed-Full-clause-asks : goal.returns-in-Err-Unwitnessed-Full-clause-asks
-returns-in-Err-Unwitnessed-Full-clause-asks g c h stands clean =
-    let missed = rw (c.in-Err-Unwitnessed-Full.field-0-is, c.in-Err-Unwitnessed-Full.field-0-0-is) at c.in-Err-Unwitnessed-Full.ensures.missed in
-    asked_unshown g.L.Log c.args.cursor.now c.act_before.new.witness c.args.request.now missed.0 faults.Full missed.1
+returns-in-Err-Unwitnessed-Full-clause-asks g c lines kept h follows clean =
+    asked_if_not g.L.Log lines kept c.args.cursor.now c.act_before.new.witness h c.args.request.now follows.of_machine follows.next faults.Full
+    (rw (c.in-Err-Unwitnessed-Full.field-0-is, c.in-Err-Unwitnessed-Full.field-0-0-is) at (c.in-Err-Unwitnessed-Full.ensures.asked h follows.represents clean))
 
 pub returns-in-Err-Unwitnessed-NoMemory-clause-asks : goal.returns-in-Err-Unwitnessed-NoMemory-clause-asks
-returns-in-Err-Unwitnessed-NoMemory-clause-asks g c h stands clean =
-    let missed = rw (c.in-Err-Unwitnessed-NoMemory.field-0-is, c.in-Err-Unwitnessed-NoMemory.field-0-0-is) at c.in-Err-Unwitnessed-NoMemory.ensures.missed in
-    asked_unshown g.L.Log c.args.cursor.now c.act_before.new.witness c.args.request.now missed.0 faults.NoMemory missed.1
+returns-in-Err-Unwitnessed-NoMemory-clause-asks g c lines kept h follows clean =
+    asked_if_not g.L.Log lines kept c.args.cursor.now c.act_before.new.witness h c.args.request.now follows.of_machine follows.next faults.NoMemory
+    (rw (c.in-Err-Unwitnessed-NoMemory.field-0-is, c.in-Err-Unwitnessed-NoMemory.field-0-0-is) at (c.in-Err-Unwitnessed-NoMemory.ensures.asked h follows.represents clean))
 
 pub returns-in-Err-Unwitnessed-Log-clause-asks : goal.returns-in-Err-Unwitnessed-Log-clause-asks
-returns-in-Err-Unwitnessed-Log-clause-asks g c h stands clean =
-    let missed = rw (c.in-Err-Unwitnessed-Log.field-0-is, c.in-Err-Unwitnessed-Log.field-0-0-is) at c.in-Err-Unwitnessed-Log.ensures.missed in
-    asked_unshown g.L.Log c.args.cursor.now c.act_before.new.witness c.args.request.now missed.0 (faults.Log c.in-Err-Unwitnessed-Log.fault) missed.1
+returns-in-Err-Unwitnessed-Log-clause-asks g c lines kept h follows clean =
+    asked_if_not g.L.Log lines kept c.args.cursor.now c.act_before.new.witness h c.args.request.now follows.of_machine follows.next (faults.Log c.in-Err-Unwitnessed-Log.fault)
+    (rw (c.in-Err-Unwitnessed-Log.field-0-is, c.in-Err-Unwitnessed-Log.field-0-0-is) at (c.in-Err-Unwitnessed-Log.ensures.asked h follows.represents clean))

@@ -22,7 +22,8 @@ returns-in-Ok-clause-stopped g c h stands clean =
 pub returns-in-Err-Fault-clause-stopped : goal.returns-in-Err-Fault-clause-stopped
 returns-in-Err-Fault-clause-stopped g c h stands clean = (
   rw c.in-Err-Fault.field-0-is (rw c.in-Err-Fault.field-0-is at (c.in-Err-Fault.ensures.keeps_fault stands.not_poisoned)),
-  left h c.args.request.now _ c.act_before.new.witness refl (state_of c.act_before.new.self) (c.in-Err-Fault.ensures.witnessed h stands clean),
+  left h c.args.request.now _ c.act_before.new.witness refl (state_of c.act_before.new.self) (rw c.in-Err-Fault.field-0-is at (c.in-Err-Fault.ensures.asked h stands clean))
+      (c.in-Err-Fault.ensures.witnessed h stands clean),
 )
 
 pub returns-clause-stopped : goal.returns-clause-stopped

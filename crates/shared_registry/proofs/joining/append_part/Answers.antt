@@ -2,7 +2,7 @@ use Rattle.std.proofs.Common.{Option, subst, sym}
 use Rattle.registry_store.specs.Promise.{NotesForeign}
 use Rattle.registry_store.specs.declared.fault.Fault.{Fault}
 use Rattle.shared_registry.specs.Asks.{AppendsLines, AppendsRecord}
-use Rattle.shared_registry.proofs.AskLemmas.{asked_nothing, asked_weaker}
+use Rattle.shared_registry.proofs.AskLemmas.{asked_weaker}
 use Rattle.shared_registry.proofs.JoinLemmas.{part_of_record}
 use Rattle.shared_registry.proofs.joining.append_part.Goals as goal
 

@@ -1,4 +1,3 @@
-use Rattle.std.proofs.Common.{refl}
 use Rattle.shared_registry.proofs.AppendLemmas.{did_not_take, offered_new}
 use Rattle.shared_registry.proofs.cursor.Cursor.append_new.Goals as goal
 
