@@ -236,7 +236,7 @@ def wait_for_all(machines):
     for machine in machines:
         while machine.curl("/head") is None:
             taken = time.monotonic() - begun
-            if taken > PATIENCE and taken > PATIENCE + len(machine.lines()) / LINES:
+            if taken > PATIENCE and taken > PATIENCE + max(it.count() for it in machines) / LINES:
                 sys.exit(f"FAILED: the machine {machine.address} does not answer: {machine.said()}")
             time.sleep(0.3)
 

@@ -153,7 +153,7 @@ class Machine:
 
     def start(self, name):
         if name == "usbreg" and not os.path.exists(self.store):
-            done(self.inside(self.usbreg, *(["replay", self.store, self.log] if self.log else ["found", self.store, FOUNDING])))
+            done(self.inside(self.usbreg, *(["replay", self.store, "--log", self.log] if self.log else ["found", self.store, FOUNDING])))
         with open(f"{self.folder}/{name}.out", "wb") as out:
             env = {**os.environ, **(self.settings() if name == "etcd" else {})}
             self.processes[name] = subprocess.Popen(self.inside(*self.words(name)), env=env, stdin=subprocess.DEVNULL, stdout=out, stderr=out)
@@ -231,9 +231,13 @@ class Machine:
         ran = subprocess.run(self.inside("curl", "-sf", "-m", "20", f"http://127.0.0.1:8080{target}"), capture_output=True, check=False)
         return ran.stdout.decode() if ran.returncode == 0 else None
 
+    def count(self):
+        """Returns how many lines the log has, or 0 if the member of this machine does not say it."""
+        return len(self.etcdctl("get", f"{NAME}/", "--prefix", "--keys-only", "--command-timeout=50s").stdout.split())
+
     def lines(self):
         """Returns the lines of the log."""
-        ran = self.etcdctl("get", f"{NAME}/", "--prefix", "--print-value-only")
+        ran = self.etcdctl("get", f"{NAME}/", "--prefix", "--print-value-only", "--command-timeout=50s")
         if ran.returncode != 0:
             sys.exit(f"FAILED: the lines of the log: {ran.stderr!r}")
         return ran.stdout.decode().splitlines()
