@@ -153,7 +153,9 @@ class Machine:
 
     def start(self, name):
         if name == "usbreg" and not os.path.exists(self.store):
-            done(self.inside(self.usbreg, *(["replay", self.store, "--log", self.log] if self.log else ["found", self.store, FOUNDING])))
+            words = ["replay", self.store, "--log", self.log] if self.log else ["found", self.store, FOUNDING]
+            # (a long log takes a new store minutes)
+            done(self.inside(self.usbreg, *words), seconds=3600)
         with open(f"{self.folder}/{name}.out", "wb") as out:
             env = {**os.environ, **(self.settings() if name == "etcd" else {})}
             self.processes[name] = subprocess.Popen(self.inside(*self.words(name)), env=env, stdin=subprocess.DEVNULL, stdout=out, stderr=out)

@@ -56,15 +56,15 @@ def same(what, got, wanted):
         sys.exit(f"{what}: {got!r:.1000}, where {wanted!r:.1000} is wanted")
 
 
-def run(words, given=b"", env=None):
-    """Returns status, output and errors of a program that reads the given bytes."""
-    ran = subprocess.run(words, input=given, capture_output=True, env={**os.environ, **(env or {})}, check=False, timeout=120)
+def run(words, given=b"", env=None, seconds=120):
+    """Returns status, output and errors of a program that reads the given bytes, and may take so long."""
+    ran = subprocess.run(words, input=given, capture_output=True, env={**os.environ, **(env or {})}, check=False, timeout=seconds)
     return ran.returncode, ran.stdout, ran.stderr
 
 
-def done(words):
+def done(words, seconds=120):
     """Returns the output of a program. Ends the script if the program fails or prints to its standard error."""
-    status, output, errors = run(words)
+    status, output, errors = run(words, seconds=seconds)
     if status or errors:
         sys.exit(f"{' '.join(words)} ended with status {status}: {errors!r}")
     return output
