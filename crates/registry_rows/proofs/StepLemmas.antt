@@ -1,5 +1,5 @@
 -- From what a statement did or showed to what a call does within a transaction.
-use Rattle.std.proofs.Common.{◌≡◌, ◌≢◌, ◌⊎◌, sym, ap, subst, Bool, true, false, cond, ℕ, zero, suc, take, drop, IsTrue, List, [], ◌∷◌, map, filter, find, slice_get, Option, Result, Ok, Err, inl, inr, MatchResult, Vec, Global, Ordering, is_gt, ◌∙◌}
+use Rattle.std.proofs.Common.{arith, ◌≡◌, ◌≢◌, ◌⊎◌, sym, ap, subst, Bool, true, false, cond, ℕ, zero, suc, take, drop, IsTrue, List, [], ◌∷◌, map, filter, find, slice_get, Option, Result, Ok, Err, inl, inr, MatchBool, MatchResult, Vec, Global, Ordering, is_gt, ◌∙◌}
 use Rattle.std.specs.Prelude.{IsErrAnd}
 use Rattle.std.specs.Borrow.{MutBor}
 use Rattle.std.specs.List.{AllByRecursion}
@@ -14,14 +14,14 @@ use Rattle.sqlite.specs.Held.{Held, state}
 use Rattle.sqlite.specs.Order.{Row}
 use Rattle.sqlite.specs.declared.error.Error.{Error}
 use Rattle.sqlite.specs.State.{State, HasCleanDisk, IsUnchanged, Shown, FailsToQuery, IsTooLate, Executes, ExecutesInside}
-use Rattle.table_laws.specs.Inside.{CommitsNothing, GoesOn, StoreFailed}
-use Rattle.table_laws.proofs.InsideLemmas.{query_goes, query_fails}
+use Rattle.table_laws.specs.Inside.{CommitsNothing, GoesOn, StaysInside, StoreFailed}
+use Rattle.table_laws.proofs.InsideLemmas.{kept_or_undone, unchanged_goes, unchanged_inside, undone_after, goes_then, quiet_then, query_goes, query_fails}
 use Rattle.table_laws.proofs.StatementLemmas.{IsSelect}
-use Rattle.table_laws.proofs.FailLemmas.{IsExcused, IsTyped, query_stops}
+use Rattle.table_laws.proofs.FailLemmas.{IsExcused, IsTyped, query_stops, violation_keeps}
 use Rattle.registry_schema.specs.Faults.{IsFaultOf}
 use Rattle.registry_schema.specs.declared.fault.TableFault.{TableFault}
 use Rattle.registry_schema.specs.declared.fault.TableFault.TheVariants.{Store, Foreign}
-use Rattle.registry_rows.specs.Steps.{Decodes, Tells, Changes, Writes, Reads, ReadsRows}
+use Rattle.registry_rows.specs.Steps.{Decodes, Tells, Changes, IsInserted, Inserts, Writes, Reads, ReadsRows}
 use Rattle.registry_rows.specs.Columns.{DecodesFirst, DecodesAll}
 use Rattle.registry_rows.specs.Tables.{Tables, Holds}
 
@@ -41,6 +41,33 @@ module _ {S : Type 0} {g : Ghosts S} {old new : MutBor (Held S)} (same : new.gho
       → (Executes sql params (state g old.now) (state g new.now) (Ok count) → (t : Tables) → Holds (state g old.now).now t → Holds (state g new.now).now (after t)) → Writes g old new (Ok a) (Changes after)
   changed sql params count runs after = wrote (λ clean inside. (let ran = runs clean inside in (ran.1, after ran.0)))
 
+  -- an INSERT, by what it told
+  pub inserts : (sql : List ℕ) (params : Row) {after : Tables → Tables} (ran : Result ℕ Error) (result : Result Bool TableFault) → IsInserted ran result
+      → (HasCleanDisk (state g new.now) → IsTrue (state g old.now).in_transaction → ExecutesInside 0 sql params (state g old.now) (state g new.now) ran)
+      → ((count : ℕ) → Executes sql params (state g old.now) (state g new.now) (Ok count) → (t : Tables) → Holds (state g old.now).now t → Holds (state g new.now).now (after t)) → Inserts g old new result (Changes after)
+  inserts sql params {after} ran result told runs means = record {
+    same_reference = same;
+    done = λ clean inside. by ran result told (runs clean inside) inside;
+    fault = known ran result told;
+    survives = quiet;
+  }
+    where
+      known : (ran : Result ℕ Error) (r : Result Bool TableFault) → IsInserted ran r → r ≢ Err Foreign
+      known (Ok n) (Ok b) told never = absurd cc
+      known (Ok n) (Err fault) told never = absurd told
+      known (Err e) (Ok b) told never = absurd cc
+      known (Err e) (Err fault) told never = absurd (let is : fault ≡ Foreign = cc in told.1 is)
+
+      by : (ran : Result ℕ Error) (r : Result Bool TableFault) → IsInserted ran r → ExecutesInside 0 sql params (state g old.now) (state g new.now) ran → IsTrue (state g old.now).in_transaction
+          → MatchResult r (λ inserted. MatchBool inserted (Changes after (state g old.now) (state g new.now)) (IsUnchanged (state g old.now) (state g new.now))) (λ _. StaysInside (state g old.now) (state g new.now))
+      by (Ok n) (Ok true) told runs inside = (runs.1, means n runs.0)
+      by (Ok n) (Ok false) told runs inside = absurd (let never = told in cc)
+      by (Ok n) (Err fault) told runs inside = absurd told
+      by (Err e) (Ok true) told runs inside = absurd (let never = told.0 in cc)
+      by (Err e) (Ok false) told runs inside = violation_keeps sql params (state g old.now) (state g new.now) told.1 (subst (λ why. ExecutesInside 0 sql params (state g old.now) (state g new.now) (Err why)) told.2 runs)
+      by (Err e) (Err fault) told (inl runs) inside = kept_or_undone (state g old.now) (state g new.now) inside runs.1
+      by (Err e) (Err fault) told (inr runs) inside = inl (unchanged_goes (state g old.now) (state g new.now) inside runs.2)
+
   -- a query that showed rows, and one that failed
   module _ {X : Type 0} {Is : Database → X → Type 0} {shown : X → List Row} (sql : List ℕ) (params : Row) where
     pub shows : {rows : Vec Row Global} → (HasCleanDisk (state g new.now) → Shown sql params (state g old.now) (state g new.now) rows.items)
@@ -58,6 +85,31 @@ module _ {S : Type 0} {g : Ghosts S} {old new : MutBor (Held S)} (same : new.gho
           reads = record { same_reference = same; told = λ clean inside. (λ foreign. absurd (failed.2.1 foreign), query_fails (state g old.now) (state g new.now) inside sql params error (err clean), λ is x has. store_failed (state g old.now) (state g new.now) error failed.0 failed.2 is (query_stops (state g old.now) (state g new.now) sql params schema (known x has) q names text typed error (err clean))); survives = quiet };
           fault = λ foreign. absurd (failed.2.1 cc);
         })
+
+-- ---- an INSERT, and what is done where another row has the key
+
+module _ {S : Type 0} {g : Ghosts S} {a b : MutBor (Held S)} {Does : State → State → Type 0} where
+  pub wrote_once : {A : Type 0} {it : A} → Inserts g a b (Ok true) Does → Writes g a b (Ok it) Does
+  wrote_once one = record { same_reference = one.same_reference; done = one.done; fault = λ never. absurd cc; survives = one.survives }
+
+  pub insert_failed : {A : Type 0} {result : Result A TableFault} {fault : TableFault} → result ≡ Err fault → Inserts g a b (Err fault) Does → Writes g a b result Does
+  insert_failed {A} {result} {fault} is one = subst (λ r. Writes g a b r Does) (sym is) (record { same_reference = one.same_reference; done = one.done; fault = λ never. one.fault (let same : fault ≡ Foreign = cc in ap Err same); survives = one.survives })
+
+pub wrote_instead : {S : Type 0} {g : Ghosts S} {a b c : MutBor (Held S)} {A : Type 0} {result : Result A TableFault} {after : Tables → Tables}
+    → Inserts g a b (Ok false) (Changes after) → Writes g b c result (Changes after) → Writes g a c result (Changes after)
+wrote_instead {S} {g} {a} {b} {c} {A} {result} {after} one other = record {
+  same_reference = other.same_reference ∙ one.same_reference;
+  done = λ clean inside. (
+      let same = one.done (omega (arith, clean, other.survives.clean)) inside in
+      told (state g a.now) (state g b.now) (state g c.now) result inside same (other.done clean (unchanged_inside (state g a.now) (state g b.now) same inside)));
+  fault = other.fault;
+  survives = quiet_then (state g a.now) (state g b.now) (state g c.now) one.survives other.survives;
+}
+  where
+    told : (x y z : State) (r : Result A TableFault) → IsTrue x.in_transaction → IsUnchanged x y → MatchResult r (λ _. Changes after y z) (λ _. StaysInside y z) → MatchResult r (λ _. Changes after x z) (λ _. StaysInside x z)
+    told x y z (Ok it) inside same did = (goes_then x y z (unchanged_goes x y inside same) did.0, λ t has. did.1 t (subst (λ db. Holds db t) (sym same.0.now_is) has))
+    told x y z (Err e) inside same (inl goes) = inl (goes_then x y z (unchanged_goes x y inside same) goes)
+    told x y z (Err e) inside same (inr undone) = inr (undone_after x y z same undone)
 
 -- ---- the values that rows store
 

@@ -1,5 +1,5 @@
 -- What a call on the tables does within a transaction.
-use Rattle.std.specs.Prelude.{◌≡◌, ◌≢◌, List, IsTrue, Result, Ok, Err, MatchResult, Vec}
+use Rattle.std.specs.Prelude.{◌≡◌, ◌≢◌, ℕ, List, Bool, true, false, IsTrue, Result, Ok, Err, MatchBool, MatchResult, Vec}
 use Rattle.std.specs.Borrow.{MutBor}
 use Rattle.std.specs.declared.alloc.Global.{Global}
 use Rattle.sqlite_trees.specs.declared.store.Store.{Ghosts}
@@ -7,7 +7,12 @@ use Rattle.sqlite.specs.Effect.{Database}
 use Rattle.sqlite.specs.Held.{Held, state}
 use Rattle.sqlite.specs.Order.{Row}
 use Rattle.sqlite.specs.State.{State, HasCleanDisk, IsUnchanged}
+use Rattle.sqlite.specs.declared.error.Error.{Error}
+use Rattle.sqlite.specs.declared.error.Error.TheVariants.{SqliteFailure}
+use Rattle.sqlite.specs.declared.error.ErrorCode.TheVariants.{ConstraintViolation}
+use Rattle.sqlite_schema.specs.declared.schema.Constraint.{Constraint}
 use Rattle.table_laws.specs.Inside.{GoesOn, StaysInside, CommitsNothing, StoreFailed}
+use Rattle.registry_schema.specs.Faults.{IsFaultOf}
 use Rattle.registry_schema.specs.declared.fault.TableFault.{TableFault}
 use Rattle.registry_schema.specs.declared.fault.TableFault.TheVariants.{Store, Foreign}
 use Rattle.registry_rows.specs.Tables.{Tables, Holds}
@@ -16,6 +21,13 @@ use Rattle.registry_rows.specs.Tables.{Tables, Holds}
 abbrev pub Decodes : {A : Type 0} → Result A TableFault → A → Type 0
 Decodes (Ok a) value = a ≡ value
 Decodes (Err e) value = e ≢ Foreign
+
+-- what an INSERT told: it inserted its row, or another row has the key, or it failed
+abbrev pub IsInserted : Result ℕ Error → Result Bool TableFault → Type 0
+IsInserted (Ok count) (Ok inserted) = inserted ≡ true
+IsInserted (Ok count) (Err fault) = ⊥
+IsInserted (Err e) (Ok inserted) = (inserted ≡ false) × (rule : Constraint) × (e ≡ SqliteFailure (ConstraintViolation rule))
+IsInserted (Err e) (Err fault) = IsFaultOf e fault
 
 -- the transaction goes on, and this function gives the tables after the call
 abbrev pub Changes : (Tables → Tables) → State → State → Type 0
@@ -34,6 +46,14 @@ module _ {S : Type 0} (g : Ghosts S) (old new : MutBor (Held S)) where
   pub record Writes {A : Type 0} (result : Result A TableFault) (Does : State → State → Type 0) : Type 0 where
     pub same_reference : new.ghost_name ≡ old.ghost_name
     pub done : HasCleanDisk (state g new.now) → IsTrue (state g old.now).in_transaction → MatchResult result (λ _. Does (state g old.now) (state g new.now)) (λ _. StaysInside (state g old.now) (state g new.now))
+    pub fault : result ≢ Err Foreign
+    pub survives : CommitsNothing (state g old.now) (state g new.now)
+
+  -- This is done if the result is true; otherwise another row has the key, and nothing changes.
+  pub record Inserts (result : Result Bool TableFault) (Does : State → State → Type 0) : Type 0 where
+    pub same_reference : new.ghost_name ≡ old.ghost_name
+    pub done : HasCleanDisk (state g new.now) → IsTrue (state g old.now).in_transaction
+        → MatchResult result (λ inserted. MatchBool inserted (Does (state g old.now) (state g new.now)) (IsUnchanged (state g old.now) (state g new.now))) (λ _. StaysInside (state g old.now) (state g new.now))
     pub fault : result ≢ Err Foreign
     pub survives : CommitsNothing (state g old.now) (state g new.now)
 

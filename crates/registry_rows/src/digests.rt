@@ -58,7 +58,7 @@ fn or_null(time: &Option<Time>) -> Option<&str>
     }
 }
 
-/// Inserts a digest with the time of its request, or replaces the one with this ID.
+/// Inserts a digest with the time of its request, where there is none with this ID.
 pub fn put_digest<S: Alter>(
     tx: &mut Transaction<'_, S>,
     id: u32,
@@ -68,7 +68,7 @@ pub fn put_digest<S: Alter>(
     ensures writes { Writes S.Store tx.old.conn tx.new.conn result (Changes (λ t. record t { digests = insert_by digest_key t.digests (id, record { time = time.now; digest = digest.now }) })) }
 {
     tx.execute(
-        "INSERT OR REPLACE INTO digests4 (id, time, digest) VALUES (?1, ?2, ?3)",
+        "INSERT INTO digests4 (id, time, digest) VALUES (?1, ?2, ?3)",
         params![id, or_null(time), digest.as_str()],
     )?;
     Ok(())

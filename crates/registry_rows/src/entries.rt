@@ -8,11 +8,12 @@ ghost use Rattle.registry_rules.specs.Records.{with_held, with_card};
 ghost use Rattle.registry_rows.specs.Rows.{IsEntry, whole, entry_row, is_of, is_between, by_number};
 ghost use Rattle.registry_rows.specs.Columns.{HasColumns, terms_columns, entry_columns};
 ghost use Rattle.sqlite.specs.declared.types.Value.TheVariants.{Text};
-ghost use Rattle.registry_rows.specs.Steps.{Changes, Decodes, Reads, ReadsRows, Writes};
+ghost use Rattle.registry_rows.specs.Steps.{Changes, Decodes, Inserts, Reads, ReadsRows, Writes};
 ghost use Rattle.registry_rows.specs.Tables.{Holds};
 
 use crate::columns::{flag_at, pid_at, text_at, text_or_null_at, vid_at};
 use crate::decode::{FromRow, all_from, first_from};
+use crate::inserting::inserted;
 use registry_rules::{Card, Entry, Terms};
 use registry_schema::TableFault;
 use sqlite::{Alter, Row, Transaction, params};
@@ -114,13 +115,36 @@ fn source_of(card: &Card) -> Option<&str>
     }
 }
 
-/// Inserts the entry, or replaces the one of its number.
-pub fn put_entry<S: Alter>(
+// Inserts the entry, or tells that there is one with its number.
+fn add_entry<S: Alter>(
     tx: &mut Transaction<'_, S>,
-    number: Number,
+    number: &Number,
+    entry: &Entry,
+) -> Result<bool, TableFault>
+    ensures writes { Inserts S.Store tx.old.conn tx.new.conn result (Changes (λ t. record t { entries = delete_where (λ other. is_of number.now other) t.entries ++ (number.now, entry.now) ∷ [] })) }
+{
+    inserted(tx.execute(
+        "INSERT INTO entries3 (vid, pid, org, held, title, licence, site, source) VALUES (?1, ?2, ?3, ?4, ?5, ?6, ?7, ?8)",
+        params![
+            u32::from(number.vid.get()),
+            u32::from(number.pid.get()),
+            entry.org.as_str(),
+            entry.held,
+            entry.card.title.as_str(),
+            licence_of(&entry.card),
+            site_of(&entry.card),
+            source_of(&entry.card)
+        ],
+    ))
+}
+
+// Inserts the entry in place of the one with its number.
+fn replace_entry<S: Alter>(
+    tx: &mut Transaction<'_, S>,
+    number: &Number,
     entry: &Entry,
 ) -> Result<(), TableFault>
-    ensures writes { Writes S.Store tx.old.conn tx.new.conn result (Changes (λ t. record t { entries = delete_where (λ other. is_of number other) t.entries ++ (number, entry.now) ∷ [] })) }
+    ensures writes { Writes S.Store tx.old.conn tx.new.conn result (Changes (λ t. record t { entries = delete_where (λ other. is_of number.now other) t.entries ++ (number.now, entry.now) ∷ [] })) }
 {
     tx.execute(
         "INSERT OR REPLACE INTO entries3 (vid, pid, org, held, title, licence, site, source) VALUES (?1, ?2, ?3, ?4, ?5, ?6, ?7, ?8)",
@@ -136,6 +160,20 @@ pub fn put_entry<S: Alter>(
         ],
     )?;
     Ok(())
+}
+
+/// Inserts the entry, or replaces the one of its number.
+pub fn put_entry<S: Alter>(
+    tx: &mut Transaction<'_, S>,
+    number: Number,
+    entry: &Entry,
+) -> Result<(), TableFault>
+    ensures writes { Writes S.Store tx.old.conn tx.new.conn result (Changes (λ t. record t { entries = delete_where (λ other. is_of number other) t.entries ++ (number, entry.now) ∷ [] })) }
+{
+    if add_entry(tx, &number, entry)? {
+        return Ok(());
+    }
+    replace_entry(tx, &number, entry)
 }
 
 /// Sets whether the number is held, if it has an entry.

@@ -45,8 +45,8 @@ impl FromRow for KeptRow {
     }
 }
 
-/// Keeps the canonical form and the reply under the caller and key. The row replaces one with this
-/// caller and key, and its rowid is one above the greatest of all rows.
+/// Keeps the canonical form and the reply under the caller and key, for which there is no row yet.
+/// The row's rowid is one above the greatest of all rows.
 pub fn put_kept<S: Alter>(
     tx: &mut Transaction<'_, S>,
     caller: &Slug,
@@ -57,7 +57,7 @@ pub fn put_kept<S: Alter>(
     ensures writes { Writes S.Store tx.old.conn tx.new.conn result (Changes (λ t. record t { kept = delete_where (λ other. is_kept_under caller.now key.now other.1) t.kept ++ (next_key (λ other. other.0) t.kept, record { caller = caller.now; key = key.now; kept = record { order = order.now; reply = reply.now } }) ∷ [] })) }
 {
     tx.execute(
-        "INSERT OR REPLACE INTO kept (caller, request_key, request, reply) VALUES (?1, ?2, ?3, ?4)",
+        "INSERT INTO kept (caller, request_key, request, reply) VALUES (?1, ?2, ?3, ?4)",
         params![
             caller.as_str(),
             key.as_str(),

@@ -31,6 +31,7 @@ mod decode;
 mod digests;
 mod entries;
 mod fixed;
+mod inserting;
 mod kept;
 mod meta;
 mod names;

@@ -3,11 +3,12 @@
 ghost use Rattle.std.specs.Prelude.{◌≡◌, [], ◌∷◌, ◌++◌, map, filter, find};
 ghost use Rattle.sqlite_keyed.specs.Lists.{delete_where, sort_by};
 ghost use Rattle.registry_rows.specs.Rows.{org_row, is_called, by_slug};
-ghost use Rattle.registry_rows.specs.Steps.{Changes, Reads, ReadsRows, Writes};
+ghost use Rattle.registry_rows.specs.Steps.{Changes, Inserts, Reads, ReadsRows, Writes};
 ghost use Rattle.registry_rows.specs.Tables.{Holds};
 
 use crate::columns::text_at;
 use crate::decode::{FromRow, all_from, first_from};
+use crate::inserting::inserted;
 use registry_rules::Org;
 use registry_schema::TableFault;
 use sqlite::{Alter, Row, Transaction, params};
@@ -31,8 +32,23 @@ impl FromRow for Org {
     }
 }
 
-/// Inserts the organisation, or replaces the one with its slug.
-pub fn put_org<S: Alter>(tx: &mut Transaction<'_, S>, org: &Org) -> Result<(), TableFault>
+// Inserts the organisation, or tells that there is one with its slug.
+fn add_org<S: Alter>(tx: &mut Transaction<'_, S>, org: &Org) -> Result<bool, TableFault>
+    ensures writes { Inserts S.Store tx.old.conn tx.new.conn result (Changes (λ t. record t { orgs = delete_where (λ other. is_called org.now.slug other) t.orgs ++ org.now ∷ [] })) }
+{
+    inserted(tx.execute(
+        "INSERT INTO orgs (slug, title, site, keeper) VALUES (?1, ?2, ?3, ?4)",
+        params![
+            org.slug.as_str(),
+            org.title.as_str(),
+            org.site.as_str(),
+            org.keeper.as_str()
+        ],
+    ))
+}
+
+// Inserts the organisation in place of the one with its slug.
+fn replace_org<S: Alter>(tx: &mut Transaction<'_, S>, org: &Org) -> Result<(), TableFault>
     ensures writes { Writes S.Store tx.old.conn tx.new.conn result (Changes (λ t. record t { orgs = delete_where (λ other. is_called org.now.slug other) t.orgs ++ org.now ∷ [] })) }
 {
     tx.execute(
@@ -45,6 +61,16 @@ pub fn put_org<S: Alter>(tx: &mut Transaction<'_, S>, org: &Org) -> Result<(), T
         ],
     )?;
     Ok(())
+}
+
+/// Inserts the organisation, or replaces the one with its slug.
+pub fn put_org<S: Alter>(tx: &mut Transaction<'_, S>, org: &Org) -> Result<(), TableFault>
+    ensures writes { Writes S.Store tx.old.conn tx.new.conn result (Changes (λ t. record t { orgs = delete_where (λ other. is_called org.now.slug other) t.orgs ++ org.now ∷ [] })) }
+{
+    if add_org(tx, org)? {
+        return Ok(());
+    }
+    replace_org(tx, org)
 }
 
 fn org_rows<S: Alter>(tx: &mut Transaction<'_, S>, slug: &Slug) -> Result<Vec<Row>, TableFault>

@@ -25,7 +25,7 @@ impl FromRow for (u32, Title) {
     }
 }
 
-/// Inserts the reason of a petition, or replaces the one that it has.
+/// Inserts the reason of a petition, if it has none.
 pub fn put_reason<S: Alter>(
     tx: &mut Transaction<'_, S>,
     petition: u32,
@@ -34,7 +34,7 @@ pub fn put_reason<S: Alter>(
     ensures writes { Writes S.Store tx.old.conn tx.new.conn result (Changes (λ t. record t { reasons = insert_by reason_key t.reasons (petition, reason.now) })) }
 {
     tx.execute(
-        "INSERT OR REPLACE INTO reasons4 (petition, reason) VALUES (?1, ?2)",
+        "INSERT INTO reasons4 (petition, reason) VALUES (?1, ?2)",
         params![petition, reason.as_str()],
     )?;
     Ok(())

@@ -25,7 +25,7 @@ impl FromRow for (u32, Time) {
     }
 }
 
-/// Inserts the time at which a petition was opened, or replaces the one that it has.
+/// Inserts the time at which a petition was opened, if it has none.
 pub fn put_opened<S: Alter>(
     tx: &mut Transaction<'_, S>,
     petition: u32,
@@ -34,7 +34,7 @@ pub fn put_opened<S: Alter>(
     ensures writes { Writes S.Store tx.old.conn tx.new.conn result (Changes (λ t. record t { opened = insert_by time_key t.opened (petition, time.now) })) }
 {
     tx.execute(
-        "INSERT OR REPLACE INTO opened5 (petition, time) VALUES (?1, ?2)",
+        "INSERT INTO opened5 (petition, time) VALUES (?1, ?2)",
         params![petition, time.as_str()],
     )?;
     Ok(())
@@ -61,7 +61,7 @@ pub fn find_opened<S: Alter>(
     first_from(alloc, &rows)
 }
 
-/// Inserts the time at which a petition was granted, declined or withdrawn, or replaces the one that it has.
+/// Inserts the time at which a petition was granted, declined or withdrawn, if it has none.
 pub fn put_closed<S: Alter>(
     tx: &mut Transaction<'_, S>,
     petition: u32,
@@ -70,7 +70,7 @@ pub fn put_closed<S: Alter>(
     ensures writes { Writes S.Store tx.old.conn tx.new.conn result (Changes (λ t. record t { closed = insert_by time_key t.closed (petition, time.now) })) }
 {
     tx.execute(
-        "INSERT OR REPLACE INTO closed5 (petition, time) VALUES (?1, ?2)",
+        "INSERT INTO closed5 (petition, time) VALUES (?1, ?2)",
         params![petition, time.as_str()],
     )?;
     Ok(())

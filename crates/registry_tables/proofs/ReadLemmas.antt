@@ -5,12 +5,12 @@ use Rattle.std.specs.Borrow.{MutBor}
 use Rattle.sqlite_trees.specs.declared.store.Store.{Ghosts}
 use Rattle.sqlite.specs.Held.{Held, state}
 use Rattle.sqlite.specs.State.{State}
-use Rattle.sqlite.proofs.StateLemmas.{survives_then}
 use Rattle.sqlite_keyed.specs.Lists.{sort_by}
 use Rattle.usbnum_core.specs.Spans.{IsSpread}
 use Rattle.usbnum_core.specs.declared.number.Number.{Number as NumberValue}
 use Rattle.usbnum_core.specs.declared.number.Span.{Span}
 use Rattle.table_laws.specs.Inside.{CommitsNothing, StoreFailed}
+pub use Rattle.table_laws.proofs.InsideLemmas.{quiet_then}
 use Rattle.registry_schema.specs.declared.fault.TableFault.{TableFault}
 use Rattle.registry_schema.specs.declared.fault.TableFault.TheVariants.{Store, Foreign}
 use Rattle.registry_rules.specs.History.{History}
@@ -27,9 +27,6 @@ use Rattle.registry_tables.specs.Rows.{newest, HoldsRows, AreRecords, AreKeptRep
 use Rattle.registry_tables.proofs.ListLemmas.{org_list, number_list}
 use Rattle.registry_tables.proofs.OpeningLemmas.{spans_told}
 use Rattle.registry_tables.proofs.FindLemmas.{finds_then, finds_ok, finds_as, fails_then, passes, passes_recorded, refuses, fails, short, tells, store_told}
-
-pub quiet_then : (a b c : State) → CommitsNothing a b → CommitsNothing b c → CommitsNothing a c
-quiet_then a b c p q = survives_then a b c _ _ (λ _. ⊥) (λ _ db none. none) (λ _ db none. none) p q
 
 module _ {S : Type 0} {g : Ghosts S} {a b : MutBor (Held S)} {A : Type 0} {P : History → A → Type 0} where
   pub opened : {r : Result A TableFault} → ReadsHistory g a b r P → ReadsHistoryOpen g a b r P

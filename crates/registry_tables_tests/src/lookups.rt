@@ -7,6 +7,7 @@ use std::test::Fail;
 
 const CHANGES: &[Put<'static>] = &[
     Put::Org("Acme"),
+    Put::Petition(1, None, State::Open),
     Put::Petition(1, None, State::Granted),
     Put::Entry(0x1209, "Probe"),
 ];

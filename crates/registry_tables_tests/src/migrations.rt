@@ -81,6 +81,7 @@ ann|k1|\"enrol\\tacme\\tAcme\\thttps://acme.example/\"|enrolled acme|
 // Acme asks for two numbers; the first is granted and returned. 240 numbers are reserved.
 const CHANGES: &[Put<'static>] = &[
     Put::Org("Acme"),
+    Put::Petition(1, None, State::Open),
     Put::Petition(1, None, State::Granted),
     Put::Petition(2, Some(0x12), State::Open),
     Put::Entry(0x1209, "Probe"),

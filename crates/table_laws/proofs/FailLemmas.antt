@@ -1,5 +1,5 @@
--- Why a query of a known table fails.
-use Rattle.std.proofs.Common.{◌≡◌, ◌≢◌, ◌≤◌, ◌⊎◌, inl, inr, ℕ, leb, true, List, [], length, None, Ok, Err, Result, refl, sym, ap, subst, append-nil, ◌∙◌}
+-- Why a query of a known table fails, and what a refused row leaves.
+use Rattle.std.proofs.Common.{◌≡◌, ◌≢◌, ◌≤◌, ◌⊎◌, inl, inr, ℕ, leb, Bool, true, false, MatchBool, List, [], length, None, Ok, Err, Result, refl, sym, ap, subst, append-nil, ◌∙◌}
 use Rattle.std.proofs.lemmas.Bool.{leb-true}
 use Rattle.sqlite.specs.Order.{Row}
 use Rattle.sqlite.specs.Schema.{Schema}
@@ -9,11 +9,12 @@ use Rattle.sqlite.specs.Command.TheVariants.{Select}
 use Rattle.sqlite.specs.Query.{Query, inner, end}
 use Rattle.sqlite.specs.Program.{overlay}
 use Rattle.sqlite.specs.declared.error.Error.{Error}
-use Rattle.sqlite.specs.declared.error.Error.TheVariants.{SqliteFailure, MultipleStatement, InvalidParameterCount}
-use Rattle.sqlite.specs.declared.error.ErrorCode.TheVariants.{OutOfMemory, NoClock}
+use Rattle.sqlite.specs.declared.error.Error.TheVariants.{SqliteFailure, MultipleStatement, InvalidParameterCount, ExecuteReturnedResults}
+use Rattle.sqlite.specs.declared.error.ErrorCode.TheVariants.{OutOfMemory, NoClock, ConstraintViolation}
 use Rattle.sqlite.specs.Listing.{understood, reads_listing, IsSourceOf}
-use Rattle.sqlite.specs.State.{State, IsNoStatement, IsNotRun, IsTooLate, Fails, HasCause, FailsToQuery, store_error}
+use Rattle.sqlite.specs.State.{State, ExecutesIn, ExecutesInside, RunsCommand, IsNoStatement, IsNotRun, IsTooLate, IsUnchanged, Fails, HasCause, FailsToQuery, store_error}
 use Rattle.sqlite.proofs.Callers.{IsPlain, command_of}
+use Rattle.sqlite_schema.specs.declared.schema.Constraint.{Constraint}
 use Rattle.sqlite_sql.specs.Program.{QueryOverflows}
 use Rattle.sqlite_typing.specs.Types.{accepts_program}
 use Rattle.sqlite_trees.specs.declared.error.StoreError.{StoreError}
@@ -95,3 +96,36 @@ module _ (old new : State) where
 pub never_overflows : (tree : ℕ) (q : Query) (params : Row) → (db : Trees) → ¬ QueryOverflows (record q { from = inner tree end; group = None }) (overlay db []) params
 never_overflows tree q params db (inl h) = h
 never_overflows tree q params db (inr h) = h.4
+
+-- a row that is refused by a constraint leaves all as it was
+pub violation_keeps : (sql : List ℕ) (params : Row) (old new : State) (rule : Constraint) → ExecutesInside 0 sql params old new (Err (SqliteFailure (ConstraintViolation rule))) → IsUnchanged old new
+unfolding ExecutesIn IsNotRun
+violation_keeps sql params old new rule (inr h) = h.2
+violation_keeps sql params old new rule (inl h) = ran h.0
+  where
+    e : Error
+    e = SqliteFailure (ConstraintViolation rule)
+
+    no_fault : (cause : StoreError) → e ≢ store_error cause
+    no_fault store.OutOfMemory is = cc
+    no_fault store.Io is = cc
+    no_fault store.Corrupt is = cc
+    no_fault store.Full is = cc
+    no_fault store.Broken is = cc
+    no_fault store.Unstorable is = cc
+
+    told : (c : Compiled) (given : Row) → RunsCommand old new sql c given (Err e) → IsUnchanged old new
+    told c given (inl h) = h.1
+    told c given (inr h) = absurd (no_fault h.0 h.1)
+
+    failed : Result ℕ Error
+    failed = Err e
+
+    alone : (b : Bool) (c : Compiled) (given : Row) → MatchBool b ((failed ≡ Err ExecuteReturnedResults) × IsUnchanged old new) (RunsCommand old new sql c given (Err e)) → IsUnchanged old new
+    alone true c given h = h.1
+    alone false c given h = told c given h
+
+    ran : ExecutesIn false sql params old new (Err e) → IsUnchanged old new
+    ran (inl (inl h)) = h.1
+    ran (inl (inr h)) = absurd (no_fault h.0 h.1)
+    ran (inr h) = alone _ h.0 _ h.2

@@ -1,5 +1,5 @@
 -- What the calls of a transaction leave.
-use Rattle.std.proofs.Common.{◌≡◌, ◌⊎◌, inl, inr, ℕ, Bool, true, cond, IsTrue, List, Option, Some, None, refl, ap, subst, ◌∙◌}
+use Rattle.std.proofs.Common.{◌≡◌, ◌⊎◌, inl, inr, ℕ, Bool, true, cond, IsTrue, List, Option, Some, None, refl, sym, ap, subst, ◌∙◌}
 use Rattle.sqlite.specs.Order.{Row}
 use Rattle.sqlite.specs.declared.error.Error.{Error}
 use Rattle.sqlite.specs.Clock.{timed}
@@ -8,7 +8,8 @@ use Rattle.sqlite_resolve.specs.declared.compiled.Compiled.{Compiled}
 use Rattle.sqlite_schema.specs.declared.command.Returning.{Returning}
 use Rattle.sqlite.specs.State.{State, IsUnchanged, IsRolledBack, IsNotRun, IsTooLate, FailsToQuery, FailsToShow, Shown, ShowsRows}
 use Rattle.sqlite.proofs.Callers.{IsPlain}
-use Rattle.table_laws.specs.Inside.{GoesOn, StaysInside}
+use Rattle.sqlite.proofs.StateLemmas.{survives_then}
+use Rattle.table_laws.specs.Inside.{CommitsNothing, GoesOn, StaysInside}
 
 is_true : (b : Bool) → IsTrue b → b ≡ true
 is_true b h = h
@@ -56,3 +57,20 @@ query_keeps old new sql params rows plain h =
 -- one call of a transaction after another
 pub goes_then : (a b c : State) → GoesOn a b → GoesOn b c → GoesOn a c
 goes_then a b c p q = record { was_open = p.was_open; is_open = q.is_open; now_is = refl; committed_is = q.committed_is ∙ p.committed_is; mode = q.mode }
+
+pub quiet_then : (a b c : State) → CommitsNothing a b → CommitsNothing b c → CommitsNothing a c
+quiet_then a b c p q = survives_then a b c _ _ (λ _. ⊥) (λ _ db none. none) (λ _ db none. none) p q
+
+-- ---- after a statement that changed nothing
+
+pub unchanged_inside : (a b : State) → IsUnchanged a b → IsTrue a.in_transaction → IsTrue b.in_transaction
+unchanged_inside a b same inside = subst (λ (mode : Bool). IsTrue mode) (sym same.0.mode) inside
+
+pub undone_after : (a b c : State) → IsUnchanged a b → IsRolledBack b c → IsRolledBack a c
+undone_after a b c same undone = record {
+  was_open = λ _. same.0.was_open;
+  undone = λ still. (let it = undone.undone still in (it.0 ∙ same.0.committed_is, it.1 ∙ same.0.committed_is));
+  autocommit = undone.autocommit;
+  unmarked = undone.unmarked;
+  counts = record { changes = undone.counts.changes ∙ same.1.changes; last_rowid = undone.counts.last_rowid ∙ same.1.last_rowid };
+}

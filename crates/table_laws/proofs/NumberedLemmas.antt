@@ -1,4 +1,4 @@
--- What INSERT OR REPLACE does to the values of a table whose key is its rowid.
+-- What INSERT and INSERT OR REPLACE do to the values of a table whose key is its rowid.
 use Rattle.std.proofs.Common.{◌≡◌, inl, inr, ℤ, Bool, true, false, ◌&&◌, ◌||◌, List, [], ◌∷◌, map, fold, None, refl, sym, ap, ap₂, subst, ◌∙◌, int_eq}
 use Rattle.std.specs.List.{AllByRecursion, list_any}
 use Rattle.sqlite.specs.declared.types.Value.TheVariants.{Int}
@@ -67,3 +67,11 @@ module _ {X : Type 0} (IsValid : X → Type 0) (key : X → ℤ) (row : X → Ro
         keyed = IsKeyedBy-insert_by key xs x h.keyed;
         valid = all-insert_by key IsValid xs x valid h.valid;
       }
+
+  -- INSERT puts the value between its neighbours
+  pub inserts_numbered : (rows : List Row) (xs : List X) (x : X) → Stores IsValid key row rows xs → IsValid x → Stores IsValid key row (put_all rows (row x ∷ [])) (insert_by key xs x)
+  inserts_numbered rows xs x h valid = record {
+    rows_are = ap (λ all. put_row (row x) all) h.rows_are ∙ puts-map key row keyed (x ∷ []) xs;
+    keyed = IsKeyedBy-insert_by key xs x h.keyed;
+    valid = all-insert_by key IsValid xs x valid h.valid;
+  }

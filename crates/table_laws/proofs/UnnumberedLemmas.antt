@@ -2,7 +2,7 @@
 use Rattle.std.proofs.Common.{◌≡◌, ◌⊎◌, inl, inr, ℕ, ℤ, pos, ◌<ℤ◌, ◌+ℤ◌, Bool, true, false, not, ◌&&◌, ◌||◌, cond, List, [], ◌∷◌, ◌++◌, map, filter, fold, None, refl, sym, ap, subst, ◌∙◌, arith, int_cmp, int_eq, Ordering}
 use Rattle.std.specs.List.{AllByRecursion, list_any, list_all}
 use Rattle.std.proofs.lemmas.Int.{ints}
-use Rattle.std.proofs.lemmas.Bool.{or_cases, or_right, and_parts}
+use Rattle.std.proofs.lemmas.Bool.{or_cases, or_right, and_parts, and_from}
 use Rattle.std.proofs.lemmas.List.{map-append}
 use Rattle.sqlite.specs.declared.types.Value.TheVariants.{Int}
 use Rattle.sqlite.specs.Order.{Row}
@@ -13,7 +13,10 @@ use Rattle.sqlite.specs.Query.{Query, inner, end, output, output_cmp, page, IsAn
 use Rattle.sqlite.specs.Edit.{put_all, without_all, id_in, next_rowid}
 use Rattle.sqlite_schema.specs.declared.schema.Index.{Index}
 use Rattle.sqlite_rules.specs.Calls.{ids_of}
-use Rattle.sqlite_schema.specs.Rules.{equal}
+use Rattle.sqlite_schema.specs.Rules.{agree, clashes, differ, equal, guards, passes}
+use Rattle.sqlite_schema.specs.declared.schema.Constraint.TheVariants.{Unique}
+use Rattle.sqlite_catalog.specs.Listing.{IsSound}
+use Rattle.sqlite.specs.Schema.{Schema}
 use Rattle.sqlite_value.specs.Keys.{first_key, plain}
 use Rattle.sqlite_rules.specs.Keys.{AreConflicts, shares, conflicts}
 use Rattle.sqlite_rules.specs.Lists.{Has}
@@ -23,6 +26,8 @@ use Rattle.sqlite_keyed.specs.Keyed.{insert_by, next_key, IsKeyedBy}
 use Rattle.sqlite_keyed.proofs.ListLemmas.{all-filter, filter-map, map-map}
 use Rattle.sqlite_keyed.proofs.KeyedLemmas.{Less-from_lt, same_int, above_all, IsKeyedBy-insert_by, IsKeyedBy-delete_where}
 use Rattle.sqlite_typed.proofs.RowLemmas.{puts-map, deletes-map}
+use Rattle.sqlite_typed.proofs.TestLemmas.{at_ints}
+use Rattle.sqlite_sql.specs.declared.ops.CompareOp.TheVariants.{Ne}
 use Rattle.table_laws.specs.Stored.{StoresWithRowids, StoresUnnumbered}
 use Rattle.table_laws.proofs.ReadLemmas.{shows_rows}
 use Rattle.table_laws.proofs.NumberedLemmas.{equal_ints}
@@ -99,6 +104,48 @@ module _ {X : Type 0} (key : X → ℤ) where
   pub below_next : (xs : List X) → IsKeyedBy key xs → AllByRecursion (λ y. key y <ℤ next_key key xs) xs
   below_next [] up = tt
   below_next (x ∷ xs) up = above_all key xs x up
+
+-- ---- no two rows with one key
+
+pub has_before : {X : Type 0} (xs more : List X) (x : X) → Has xs x → Has (xs ++ more) x
+has_before [] more x h = absurd h
+has_before (y ∷ xs) more x (inl same) = inl same
+has_before (y ∷ xs) more x (inr later) = inr (has_before xs more x later)
+
+pub has_last : {X : Type 0} (xs : List X) (x : X) → Has (xs ++ x ∷ []) x
+has_last [] x = inl refl
+has_last (y ∷ xs) x = inr (has_last xs x)
+
+ints_differ : (a b : ℤ) → a <ℤ b → differ (Int a) (Int b) ≡ true
+ints_differ a b less = at_ints false Ne a b ∙ grind (arith, ints)
+
+unshared : (g c k : Bool) → not (g && c) ≡ true → (k ≡ true → c ≡ true) → (g && true && k) ≡ false
+unshared false c k clear hit = refl
+unshared true c false clear hit = refl
+unshared true false true clear hit = sym (hit refl)
+unshared true true true clear hit = sym clear
+
+neither : (a b : Bool) → a ≡ false → b ≡ false → (a || b) ≡ false
+neither false b p q = q
+neither true b p q = cc
+
+-- a row that clashes with no other shares no key with one of another rowid
+shares_none : (table : Table) (rows : List Row) (other row : Row) → Has rows other → differ (rowid other) (rowid row) ≡ true → (indexes : List Index)
+    → list_all (λ i. not (guards i table && clashes i.order i.columns rows row)) indexes ≡ true → list_any (shares None table row other) indexes ≡ false
+shares_none table rows other row there apart [] clear = refl
+shares_none table rows other row there apart (i ∷ more) clear =
+    let both = and_parts _ _ clear in
+    neither (shares None table row other i) (list_any (shares None table row other) more)
+    (unshared (guards i table) (clashes i.order i.columns rows row) (agree i.order i.columns other i.columns row) both.0
+    (λ agrees. some_from (λ (o : Row). agree i.order i.columns o i.columns row && differ (rowid o) (rowid row)) rows other there (and_from _ _ agrees apart))) (shares_none table rows other row there apart more both.1)
+
+-- no row of a sound database clashes with another one
+pub rows_clear : (schema : Schema) (table : Table) (db : Trees) → Has schema.tables table → IsSound schema db → (rows : List Row) → db table.tree ≡ rows → (r : Row) → Has rows r
+    → list_all (λ i. not (guards i table && clashes i.order i.columns rows r)) schema.indexes ≡ true
+rows_clear schema table db listed sound rows is r there =
+    let all = all_has (λ t. AllByRecursion (λ row. passes Unique schema db t row ≡ true) (db t.tree)) schema.tables table (sound.obeys.rules Unique) listed in
+    let each = all_has (λ row. passes Unique schema db table row ≡ true) (db table.tree) r all (subst (λ l. Has l r) (sym is) there) in
+    subst (λ l. list_all (λ i. not (guards i table && clashes i.order i.columns l r)) schema.indexes ≡ true) is each
 
 -- ---- INSERT OR REPLACE
 
@@ -180,10 +227,48 @@ module _ {X : Type 0} (IsValid : X → Type 0) (row : X → Row) (indexes : List
       } in
       subst (λ k. StoresWithRowids IsValid row after (left ++ (k, x) ∷ [])) next stored
 
+  -- INSERT leaves no two rows with one key: none had that of the row which it appended
+  pub inserts_with_rowids : (rows : List Row) (all : List (ℤ × X)) (x : X) → StoresWithRowids IsValid row rows all → IsValid x
+      → ((r : Row) → Has (put_all rows ((Int (next_rowid rows) ∷ row x) ∷ [])) r → list_all (λ i. not (guards i table && clashes i.order i.columns (put_all rows ((Int (next_rowid rows) ∷ row x) ∷ [])) r)) indexes ≡ true)
+      → StoresWithRowids IsValid row (put_all rows ((Int (next_rowid rows) ∷ row x) ∷ [])) (delete_where (λ (p : ℤ × X). same p.1 x) all ++ (next_key place all, x) ∷ [])
+  inserts_with_rowids rows all x h valid unique = replaces_with_rowids rows all x [] h valid (record { sound = λ r none. absurd none; complete = λ r there hits. absurd (apart r there hits) })
+    where
+      new : ℤ × X
+      new = (next_rowid rows, x)
+
+      after : List Row
+      after = put_all rows (as_row new ∷ [])
+
+      below : AllByRecursion (λ (y : ℤ × X). y.0 <ℤ new.0) all
+      below = subst (λ k. AllByRecursion (λ (y : ℤ × X). y.0 <ℤ k) all) (sym (ap next_rowid h.rows_are ∙ next_is IsValid row (pos 1) all)) (below_next place all h.keyed)
+
+      placed : after ≡ map as_row (all ++ new ∷ [])
+      placed = ap (λ l. put_row (as_row new) l) h.rows_are ∙ puts-map place as_row (λ _. refl) (new ∷ []) all ∙ ap (map as_row) (insert_above place all new below)
+
+      apart : (r : Row) → Has rows r → ¬ (conflicts None indexes table (as_row new) r ≡ true)
+      apart r there hits =
+          let z = from_mapped as_row all r (subst (λ l. Has l r) h.rows_are there) in
+          let under : z.0.0 <ℤ new.0 = all_has (λ (w : ℤ × X). w.0 <ℤ new.0) all z.0 below z.1 in
+          let met = by_index new z.0 under (subst (λ q. conflicts None indexes table (as_row new) q ≡ true) z.2 hits) in
+          let other : Has after (as_row z.0) = subst (λ l. Has l (as_row z.0)) (sym placed) (has_mapped as_row (all ++ new ∷ []) z.0 (has_before all (new ∷ []) z.0 z.1)) in
+          let own : Has after (as_row new) = subst (λ l. Has l (as_row new)) (sym placed) (has_mapped as_row (all ++ new ∷ []) new (has_last all new)) in
+          let free = shares_none table after (as_row z.0) (as_row new) other (ints_differ z.0.0 new.0 under) indexes (unique (as_row new) own) in
+          let never : true ≡ false = sym met ∙ free in
+          cc
+
 -- the values after it, whatever the rowids
 pub values_after : {X : Type 0} (p : X → Bool) (all : List (ℤ × X)) (rank : ℤ) (x : X) → map (λ (y : ℤ × X). y.1) (delete_where (λ (y : ℤ × X). p y.1) all ++ (rank, x) ∷ []) ≡ delete_where p (map (λ (y : ℤ × X). y.1) all) ++ x ∷ []
 values_after {X} p all rank x =
     map-append (λ (y : ℤ × X). y.1) (delete_where (λ (y : ℤ × X). p y.1) all) ((rank, x) ∷ []) ∙ ap (λ l. l ++ x ∷ []) (sym (filter-map (λ y. not (p y)) (λ (y : ℤ × X). y.1) all))
+
+-- the same without the rowids
+pub unnumbered_after : {X : Type 0} (IsValid : X → Type 0) (row : X → Row) (p : X → Bool) (rows : List Row) (all : List (ℤ × X)) (rank : ℤ) (x : X) (xs : List X) → map (λ (y : ℤ × X). y.1) all ≡ xs
+    → StoresWithRowids IsValid row rows (delete_where (λ (y : ℤ × X). p y.1) all ++ (rank, x) ∷ []) → StoresUnnumbered IsValid row rows (delete_where p xs ++ x ∷ [])
+unnumbered_after {X} IsValid row p rows all rank x xs are stored = record {
+  numbered = delete_where (λ (y : ℤ × X). p y.1) all ++ (rank, x) ∷ [];
+  stores = stored;
+  values_are = values_after p all rank x ∙ ap (λ l. delete_where p l ++ x ∷ []) are;
+}
 
 -- without the rowids
 pub without_rowids : {X : Type 0} (IsValid : X → Type 0) (row : X → Row) (rows : List Row) (all : List (ℤ × X)) → StoresWithRowids IsValid row rows all → StoresUnnumbered IsValid row rows (map (λ (p : ℤ × X). p.1) all)

@@ -1,10 +1,10 @@
 -- What UPDATE does to the values that a table stores.
-use Rattle.std.proofs.Common.{◌≡◌, ℕ, ℤ, pos, negsuc, ◌<ℤ◌, Bool, true, false, not, cond, List, [], ◌∷◌, map, filter, fold, drop, None, refl, sym, ap, ◌∙◌, arith, int_cmp, int_eq, Ordering, Less, Equal, Greater}
-use Rattle.std.specs.List.{AllByRecursion, list_all}
+use Rattle.std.proofs.Common.{◌≡◌, ◌≢◌, ℕ, suc, length, ℤ, pos, negsuc, ◌<ℤ◌, Bool, true, false, not, cond, List, [], ◌∷◌, map, filter, fold, drop, None, refl, sym, ap, ap₂, ◌∙◌, arith, int_cmp, int_eq, Ordering, Less, Equal, Greater}
+use Rattle.std.specs.List.{AllByRecursion, list_all, list_any}
 use Rattle.std.specs.List.Sorted.{IsPermutation}
 use Rattle.std.specs.Ordering.{match_ordering}
 use Rattle.std.proofs.lemmas.Int.{ints}
-use Rattle.std.proofs.lemmas.List.Sorted.{IsPermutation-map}
+use Rattle.std.proofs.lemmas.List.Sorted.{IsPermutation-map, length_permutation}
 use Rattle.sqlite.specs.declared.types.Value.TheVariants.{Int}
 use Rattle.sqlite.specs.Order.{Row}
 use Rattle.sqlite.specs.Tree.{Trees, rowid, put_row}
@@ -109,6 +109,50 @@ module _ {X : Type 0} (key : X → ℤ) where
           ∙ puts_past _ (f x) (delete_where p xs) (later (f x) (keeps x)) ∙ ap (λ l. f x ∷ l) more
       go false more = puts_past _ x (delete_where p xs) (later x refl) ∙ ap (λ l. x ∷ l) more
 
+-- changing the value that has this key into another one inserts that
+pub changed_is_inserted : {X : Type 0} (key : X → ℤ) (x : X) (f : X → X) → ((y : X) → int_eq (key y) (key x) ≡ true → f y ≡ x) → (xs : List X) → IsKeyedBy key xs
+    → list_any (λ y. int_eq (key y) (key x)) xs ≡ true → update_where (λ y. int_eq (key y) (key x)) f xs ≡ insert_by key xs x
+changed_is_inserted key x f makes [] up some = absurd (let never = some in cc)
+changed_is_inserted {X} key x f makes (y ∷ ys) up some = go (int_cmp (key y) (key x)) refl (λ later. changed_is_inserted key x f makes ys up.1 later)
+  where
+    apart_above : (zs : List X) → AllByRecursion (λ z. key x <ℤ key z) zs → (update_where (λ z. int_eq (key z) (key x)) f zs ≡ zs) × (list_any (λ z. int_eq (key z) (key x)) zs ≡ false)
+    apart_above [] all = (refl, refl)
+    apart_above (z ∷ zs) all =
+        let less = all.0 in
+        let apart : int_eq (key z) (key x) ≡ false = grind (arith, ints) in
+        let more = apart_above zs all.1 in
+        rw apart (ap (λ l. z ∷ l) more.0, more.1)
+
+    above : (k : ℤ) → k <ℤ key y → AllByRecursion (λ z. k <ℤ key z) ys
+    above k less = all_weaker _ (λ z. k <ℤ key z) (λ z h. grind (arith, ints)) ys up.0
+
+    go : (o : Ordering) → int_cmp (key y) (key x) ≡ o → (list_any (λ z. int_eq (key z) (key x)) ys ≡ true → update_where (λ z. int_eq (key z) (key x)) f ys ≡ insert_by key ys x)
+        → update_where (λ z. int_eq (key z) (key x)) f (y ∷ ys) ≡ insert_by key (y ∷ ys) x
+    go Less is more =
+        let apart : int_eq (key y) (key x) ≡ false = grind (arith, ints) in
+        rw (apart, is) (ap (λ l. y ∷ l) (more (rw apart at some)))
+    go Equal is more =
+        let same : int_eq (key y) (key x) ≡ true = grind (arith, ints) in
+        let rest = apart_above ys (all_weaker _ (λ z. key x <ℤ key z) (λ z h. grind (arith, ints)) ys up.0) in
+        rw (same, is) (ap₂ ◌∷◌ (makes y same) rest.0)
+    go Greater is more =
+        let apart : int_eq (key y) (key x) ≡ false = grind (arith, ints) in
+        let none = (apart_above ys (above (key x) (grind (arith, ints)))).1 in
+        absurd (let never = rw (apart, none) at some in cc)
+
+-- a list without a value that passes has none to pick
+some_passes : {X : Type 0} (p : X → Bool) (xs : List X) → length (filter p xs) ≢ 0 → list_any p xs ≡ true
+some_passes p [] some = absurd (some refl)
+some_passes {X} p (x ∷ xs) some = go (p x) refl (some_passes p xs)
+  where
+    go : (b : Bool) → p x ≡ b → (length (filter p xs) ≢ 0 → list_any p xs ≡ true) → list_any p (x ∷ xs) ≡ true
+    go true is more = rw is refl
+    go false is more = rw is (more (rw is at some))
+
+as_long : {X Y : Type 0} (f : X → Y) (xs : List X) → length (map f xs) ≡ length xs
+as_long f [] = refl
+as_long f (x ∷ xs) = ap suc (as_long f xs)
+
 all_updated : {X : Type 0} (P : X → Type 0) (p : X → Bool) (f : X → X) → ((x : X) → P x → P (f x)) → (xs : List X) → AllByRecursion P xs → AllByRecursion P (update_where p f xs)
 all_updated P p f keeps [] all = tt
 all_updated P p f keeps (x ∷ xs) all = (elim (p x) as (λ b. P (cond b (f x) x)) [ true ↦ keeps x all.0 | false ↦ all.0 ], all_updated P p f keeps xs all.1)
@@ -176,6 +220,12 @@ module _ {X : Type 0} (IsValid : X → Type 0) (key : X → ℤ) (row : X → Ro
           keyed = IsKeyedBy-update_where key p f keeps xs stored.keyed;
           valid = all_updated IsValid p f valid xs stored.valid;
         }
+
+    -- where it found a row, there is one to change
+    pub some_updated : (found : List Row) → IsAnswer q db params found → length found ≢ 0 → list_any p xs ≡ true
+    some_updated found answer some =
+        let it = found_are found answer in
+        some_passes p xs (λ none. some (ap length it.2 ∙ as_long (λ (x : X). (made x).1) it.0 ∙ length_permutation _ _ it.1 ∙ none))
 
 -- ---- values that do not contain the rowid
 

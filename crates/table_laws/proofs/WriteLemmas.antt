@@ -1,19 +1,21 @@
--- What INSERT OR REPLACE of one row, INSERT of a query's rows, UPDATE and DELETE do to the rows of a table with any
--- columns.
-use Rattle.std.proofs.Common.{◌≡◌, ◌≢◌, inl, inr, ℕ, ℤ, ◌/◌, length, append-nil, List, [], ◌∷◌, map, drop, slice_get, Option, Some, None, Ok, refl, sym, ap, subst, ◌∙◌}
+-- What INSERT OR REPLACE of one row, INSERT of one row or of a query's rows, UPDATE and DELETE do to the rows of a table
+-- with any columns.
+use Rattle.std.proofs.Common.{◌≡◌, ◌≢◌, inl, inr, ℕ, suc, ℤ, ◌/◌, length, append-nil, List, [], ◌∷◌, map, drop, slice_get, Option, Some, None, Ok, refl, sym, ap, subst, ◌∙◌}
+use Rattle.std.specs.Prelude.{unwrap_or}
 use Rattle.std.specs.List.{AllByRecursion}
 use Rattle.sqlite.specs.Order.{Row}
 use Rattle.sqlite.specs.Tree.{Trees, put_row}
 use Rattle.sqlite.specs.Term.{Term}
 use Rattle.sqlite.specs.Table.{Table}
 use Rattle.sqlite.specs.Schema.{Schema}
+use Rattle.sqlite.specs.Source.{Source}
 use Rattle.sqlite.specs.Source.TheVariants.{Values, Query}
 use Rattle.sqlite.specs.Command.{Command}
 use Rattle.sqlite.specs.Command.TheVariants.{Insert, InsertOr, Update, Delete}
 use Rattle.sqlite.specs.Edit.{taken_by, Edit, with_rowid, numbered, edit_of, put_all, without_all, Applies}
 use Rattle.sqlite.specs.Cast.{cast_row}
 use Rattle.sqlite.specs.Rowids.TheVariants.{Chosen, Given}
-use Rattle.sqlite.specs.Effect.{Database, Answers, value_rows}
+use Rattle.sqlite.specs.Effect.{Database, Answers, IsSource, value_rows}
 use Rattle.sqlite.specs.Does.{Tally, Does, Concludes, WritesRows}
 use Rattle.sqlite.specs.Rows.{Written, Then, Task, mended, nothing, Edited, Puts, Tries, TriesEach, Judged, Upserts, Clears, count_of}
 use Rattle.sqlite.specs.State.{State, mode_of, Writes}
@@ -51,16 +53,17 @@ module _ (schema : Schema) (untied : IsUntied schema) (at tree : ℕ) (name : Li
     abbrev task : Task
     task = record { limit = old.step_limit; keys = (mode_of old).keys; schema = schema; table = table; params = params }
 
-    -- the rows were written to these trees, which are now those of the database
-    abbrev Ran : Command → Type 0
-    Ran command = (w : Written) × WritesRows task old.now.trees command (Ok w) × (new.now ≡ record { schema = schema; trees = w.trees })
+    -- the rows were written to these trees, which are now those of the database, and were counted
+    abbrev Ran : Command → Tally → Type 0
+    Ran command tally = (w : Written) × WritesRows task old.now.trees command (Ok w) × (new.now ≡ record { schema = schema; trees = w.trees }) × (tally.rows ≡ Some (length w.rows))
 
-    ran_on_rows : (command : Command) (tally : Tally) → Then (WritesRows task old.now.trees command) (Concludes task (mode_of old) None) (Ok (tally, new.now)) → Ran command
+    ran_on_rows : (command : Command) (tally : Tally) → Then (WritesRows task old.now.trees command) (Concludes task (mode_of old) None) (Ok (tally, new.now)) → Ran command tally
     ran_on_rows command tally h =
         let all = went h in
         let tested = went all.2 in
         let shown = went tested.2 in
-        (all.0, all.1, ap (λ (p : Tally × Database). p.1) (same_ok shown.2))
+        let last = same_ok shown.2 in
+        (all.0, all.1, ap (λ (p : Tally × Database). p.1) last, ap (λ (p : Tally × Database). p.0.rows) last)
 
     -- the new database is sound
     stays_sound : (command : Command) → Writes old new None command text params count → new.now.schema ≡ schema → IsSound schema new.now.trees
@@ -135,12 +138,12 @@ module _ (schema : Schema) (untied : IsUntied schema) (at tree : ℕ) (name : Li
           },
         )
 
-    -- INSERT inserts the rows of its query in order, each with the next rowid unless it has one
-    pub inserts : (q : Program) → Writes old new None (Insert at (Query q)) text params count
-        → (found : List Row) × Answers (record { schema = schema; trees = old.now.trees }) q params found
+    -- INSERT inserts the rows of its source in order, each with the next rowid unless it has one
+    inserts_from : (from : Source) → Writes old new None (Insert at from) text params count
+        → (found : List Row) × IsSource (record { schema = schema; trees = old.now.trees }) params from found
         × Sets schema tree old.now new.now (put_all (old.now.trees tree) (numbered Chosen (old.now.trees tree) (map (λ s. cast_row table s) found)))
-    inserts q w =
-        let command = Insert at (Query q) in
+    inserts_from from w =
+        let command = Insert at from in
         let db = old.now.trees in
         let put = subst (λ s. Does old.step_limit (mode_of old) params (record old.now { schema = s }) text None command (Ok (w.tally, new.now))) has w.changed in
         let ran = ran_on_rows command w.tally (rw is at put) in
@@ -155,7 +158,7 @@ module _ (schema : Schema) (untied : IsUntied schema) (at tree : ℕ) (name : Li
         let now : new.now.trees ≡ wrote.0 = ap (λ (d : Database). d.trees) ran.2 ∙ trees in
         let same : new.now.schema ≡ schema = ap (λ (d : Database). d.schema) ran.2 in (
           found.0,
-          subst (λ (given : Row). Answers (record { schema = schema; trees = db }) q given found.0) (append-nil params) found.1,
+          subst (λ (given : Row). IsSource (record { schema = schema; trees = db }) given from found.0) (append-nil params) found.1,
           record {
             same_schema = same;
             sound = stays_sound command w same;
@@ -163,6 +166,18 @@ module _ (schema : Schema) (untied : IsUntied schema) (at tree : ℕ) (name : Li
             others = subst (Others db) (sym now) all.tables;
           },
         )
+
+    pub inserts : (q : Program) → Writes old new None (Insert at (Query q)) text params count
+        → (found : List Row) × Answers (record { schema = schema; trees = old.now.trees }) q params found
+        × Sets schema tree old.now new.now (put_all (old.now.trees tree) (numbered Chosen (old.now.trees tree) (map (λ s. cast_row table s) found)))
+    inserts q w = inserts_from (Query q) w
+
+    pub inserts_one : (terms : List Term) (width : ℕ) (one : Row) → value_rows params width (length terms / width) terms ≡ one ∷ []
+        → Writes old new None (Insert at (Values terms width)) text params count
+        → Sets schema tree old.now new.now (put_all (old.now.trees tree) (with_rowid Chosen (old.now.trees tree) (cast_row table one) ∷ []))
+    inserts_one terms width one given w =
+        let done = inserts_from (Values terms width) w in
+        subst (λ found. Sets schema tree old.now new.now (put_all (old.now.trees tree) (numbered Chosen (old.now.trees tree) (map (λ s. cast_row table s) found)))) (done.1.1 ∙ given) done.2
 
     -- DELETE removes the rows that its query finds
     pub deletes : (q : Program) → Writes old new None (Delete at q) text params count
@@ -191,10 +206,15 @@ module _ (schema : Schema) (untied : IsUntied schema) (at tree : ℕ) (name : Li
     given_rows rows [] = refl
     given_rows rows (r ∷ rs) = ap (λ l. r ∷ l) (given_rows (put_row r rows) rs)
 
-    -- UPDATE removes the rows that its query finds, and inserts the new rows that the query returns with them
+    as_many : (rows sources : List Row) → length (numbered Given rows (map (λ s. cast_row table (drop 1 s)) sources)) ≡ length sources
+    as_many rows [] = refl
+    as_many rows (s ∷ more) = ap suc (as_many (put_row (cast_row table (drop 1 s)) rows) more)
+
+    -- UPDATE removes the rows that its query finds, inserts the new rows that the query returns with them, and counts them
     pub updates : (q : Program) → Writes old new None (Update at q) text params count
         → (found : List Row) × Answers (record { schema = schema; trees = old.now.trees }) q params found
         × Sets schema tree old.now new.now (put_all (without_all (old.now.trees tree) (ids_of found)) (map (λ s. cast_row table (drop 1 s)) found))
+        × (count ≡ length found)
     updates q w =
         let command = Update at q in
         let db = old.now.trees in
@@ -213,4 +233,5 @@ module _ (schema : Schema) (untied : IsUntied schema) (at tree : ℕ) (name : Li
             rows_are = ap (λ (t : Trees). t tree) now ∙ all.rows ∙ ap (put_all (without_all (db tree) (ids_of found.0))) (given_rows _ (map (λ s. cast_row table (drop 1 s)) found.0));
             others = subst (Others db) (sym now) all.tables;
           },
+          w.counted ∙ ap (λ n. unwrap_or n 0) ran.3 ∙ ap (λ (it : Written). length it.rows) (same_ok set.2) ∙ as_many _ found.0,
         )

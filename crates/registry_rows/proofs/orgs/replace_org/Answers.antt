@@ -1,7 +1,7 @@
 use Rattle.registry_rows.specs.Rows.{IsOrg}
 use Rattle.registry_rows.proofs.PutLemmas.{puts_org}
 use Rattle.registry_rows.proofs.StepLemmas.{changed}
-use Rattle.registry_rows.proofs.orgs.put_org.Goals as goal
+use Rattle.registry_rows.proofs.orgs.replace_org.Goals as goal
 
 pub returns : goal.returns
 returns g c =
