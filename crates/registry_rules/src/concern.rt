@@ -110,9 +110,10 @@ fn owner_in(holdings: &Holdings, number: Number) -> Option<&Slug>
     }
 }
 
-/// Returns the organisation that the order names, its petition's, or the owner of its number.
-/// `vid` is the vendor that the order concerns, and `petition` the petition that it names;
-/// `holdings` has the holding of each number that it concerns.
+/// Returns the organisation that the order names, its petition's, or the owner of its number. A
+/// curator's order on a petition or a number concerns none. `vid` is the vendor that the order
+/// concerns, and `petition` the petition that it names; `holdings` has the holding of each number
+/// that it concerns.
 #[tactic(auto, unfolding(crate::specs::FactsOf::concerns, crate::specs::FactsOf::petition_named, crate::specs::FactsOf::slug_concerned, crate::specs::FactsOf::vendor_concerned))]
 pub fn slug_concerned<'a>(
     order: &'a Order,
@@ -130,11 +131,10 @@ pub fn slug_concerned<'a>(
         | Order::Import(Import { org, .. })
         | Order::HandOver(HandOver { org, .. })
         | Order::CorrectOrg(CorrectOrg { org, .. }) => Some(org),
-        Order::Amend(Amend { number, .. })
-        | Order::Return(Return { number, .. })
-        | Order::Correct(Correct { number, .. })
-        | Order::Revoke(Revoke { number, .. }) => owner_in(holdings, Number { vid, pid: *number }),
-        Order::Grant(_) | Order::Decline(_) | Order::Withdraw(_) => Some(&petition?.org),
+        Order::Amend(Amend { number, .. }) | Order::Return(Return { number, .. }) => {
+            owner_in(holdings, Number { vid, pid: *number })
+        }
+        Order::Withdraw(_) => Some(&petition?.org),
         _ => None,
     }
 }

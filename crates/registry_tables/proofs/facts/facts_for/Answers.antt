@@ -13,7 +13,7 @@ returns-clause-reads g c =
     let named = it.0.0 in
     let vendor = c.vid_concerned-vid.ensures h (c.founding.ensures h are).vendor (c.as_ref.ensures.value ∙ named) in
     let range = c.numbers_concerned-range.ensures.all h vendor (c.as_ref-3.ensures.value ∙ named) (c.least_of-least.ensures h are ∙ ap (least_for h) (c.as_ref-2.ensures.value ∙ named)) in
-    let each = λ (n : Number) (about : concerns h c.args.request.now.order n ≡ true). it.0.1 n (range n about) in
+    let each = λ (n : Number) (about : concerns h c.args.request.now.order n ≡ true). it.0.1 are n (range n about) in
     c.facts.ensures h are vendor kept named (it.1 ∙ ap (option_and_then (org_of h)) (c.slug_concerned-slug.ensures h vendor (c.as_ref-4.ensures.value ∙ named) each)) each)
     (open_then (open_then c.in_ok-petition.ensures.reads c.in_ok-holdings.ensures.reads) c.in_ok-org.ensures.reads)
 

@@ -8,7 +8,7 @@ use Rattle.registry_tables.proofs.facts.holdings_within.Goals as goal
 
 pub returns-in-Ok-clause-reads : goal.returns-in-Ok-clause-reads
 returns-in-Ok-clause-reads g c =
-    let range = c.args.range in
+    let range = c.args.range.now in
     rows_pass (λ h t legal has had kept is.
     let listed = λ (a b : ℕ). sort_by by_number (filter (is_between range.vid a b) t.entries) in
     let all = is ∙ ap (λ a. listed a c.last.result) c.first.ensures ∙ ap (listed range.span.first) c.last.ensures.last in
