@@ -23,7 +23,7 @@ use Rattle.shared_registry.specs.Lines.{fault_of}
 use Rattle.shared_registry.specs.declared.cursor.Cursor.{Cursor}
 use Rattle.shared_registry.specs.declared.stop.ShareStop.{ShareStop}
 use Rattle.shared_registry.specs.declared.stop.ShareStop.TheVariants as stops
-use Rattle.shared_registry.proofs.LineLemmas.{leads_nowhere, leads_on}
+use Rattle.shared_registry.proofs.LineLemmas.{leads_on}
 use Rattle.shared_desk.specs.Refusals.{fault_behind}
 use Rattle.shared_desk.specs.Server.{EndsOver, stop_in}
 use Rattle.shared_desk.specs.Serving.{IsUnserved}
@@ -48,7 +48,7 @@ module _ {S : Type 0} {g : Ghosts S} {L : Type 0} (l : log.Ghosts L) (lines : L 
   -- a registry that still follows its log
   pub following_over : (h : History) (fault : Option Fault) → FollowsLater l lines it_new c_new h → LeavesOver fault h
   following_over h None it = (it.0, it.0, (it.1, refl, it.2.of_machine, it.2.of_machine), leaves_itself it_new it.0 it.2.represents clean)
-  following_over h (Some fault) it = (it.0, it.0, (it.1, leads_nowhere it.0, it.2.of_machine, it.2.of_machine), leaves_itself it_new it.0 it.2.represents clean)
+  following_over h (Some fault) it = (it.0, it.0, (it.1, inl refl, it.2.of_machine, it.2.of_machine), leaves_itself it_new it.0 it.2.represents clean)
 
   pub over_earlier : (h x : History) (fault : Option Fault) → LeadsTo h x → LeavesOver fault x → LeavesOver fault h
   over_earlier h x fault leads it = (it.0, it.1, (leads_on h x it.0 leads it.2.0, it.2.1, it.2.2, it.2.3), it.3)

@@ -27,6 +27,7 @@ use Rattle.shared_log.specs.Calls.{IsKept, LogLines}
 use Rattle.shared_log.specs.declared.log.Log as log
 use Rattle.shared_registry.specs.Cursors.{log_of}
 use Rattle.shared_registry.specs.declared.cursor.Cursor.{Cursor}
+use Rattle.shared_registry.specs.Follows.{GoesOnByOne}
 use Rattle.shared_registry.specs.Lines.{fault_in}
 use Rattle.shared_desk.specs.Refusals.{fault_behind}
 use Rattle.shared_desk.specs.Server.{stop_in}
@@ -43,10 +44,10 @@ use Rattle.registry_program.specs.Whole.{IsCarriedOn, IsUnreplayed, IsUsed, Lead
 abbrev pub SharesWholly : {H F I K : Type 0} → host.Ghosts H F I → disk.Ghosts F → logs.Ghosts H K → log.Ghosts K → H → H → List ℕ → List ℕ → Ends → Type 0
 SharesWholly m d k l old new path address ends = UnlessStopped m d old new path ends (SharesInto k l address) (IsCarriedOn m d old new path Stays)
 
--- the second history is the first; or, after a fault of the registry, it may go on from it
+-- the second history is the first; or, after a fault of the registry, it may have one request more
 abbrev pub MayGoOn : Option Fault → History → History → Type 0
 MayGoOn None x y = y ≡ x
-MayGoOn (Some fault) x y = LeadsTo x y
+MayGoOn (Some fault) x y = GoesOnByOne x y
 
 -- what a command over a log leaves of this history: it leads to both, and the record of each begins the log
 abbrev pub IsLeftOver : LogLines → Option Fault → History → History → History → Type 0

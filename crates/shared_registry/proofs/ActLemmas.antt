@@ -192,7 +192,7 @@ module _ {S : Type 0} {g : Ghosts S} {L : Type 0} (l : LogGhosts L) (lines : L �
           last = h;
           next = h;
           leads = leads_nowhere h;
-          goes_on = leads_nowhere h;
+          goes_on = inl refl;
           last_of = of;
           next_of = of;
           leaves = λ db may.
@@ -207,7 +207,7 @@ module _ {S : Type 0} {g : Ghosts S} {L : Type 0} (l : LogGhosts L) (lines : L �
       last = h;
       next = with_deed h deed;
       leads = leads_nowhere h;
-      goes_on = (over_shown deed is shown).leads;
+      goes_on = inr (accepted_line (accepted_as r (act_text deed.act)), (r, continued h r deed _ is shown.valid refl));
       last_of = still_of (lines c.log) (lines c_new.log) h follows.of_machine (line_grows l lines kept c c_new _ (took_line l c c_new _ shown.line));
       next_of = shown_of deed is shown;
       leaves = λ db may. let it = leaves db may in (it.0, elim it.1 [ inl at ↦ inl at | inr one ↦ inr (one.0 ∙ after_new h r deed is) ], it.2);

@@ -22,7 +22,7 @@ use Rattle.shared_log.specs.declared.log.Log.{Ghosts as LogGhosts}
 use Rattle.shared_registry.specs.declared.cursor.Cursor.{Cursor}
 use Rattle.shared_registry.specs.declared.stop.ShareStop.{ShareStop}
 use Rattle.shared_registry.specs.declared.stop.ShareStop.TheVariants as stops
-use Rattle.shared_registry.specs.Follows.{Follows, FollowsLater, HasFailed, HasFollowed, HasFollowedPage, HasGoneOn, IsLeft, LeavesOfMachine}
+use Rattle.shared_registry.specs.Follows.{Follows, FollowsLater, GoesOnByOne, HasFailed, HasFollowed, HasFollowedPage, HasGoneOn, IsLeft, LeavesOfMachine}
 use Rattle.shared_registry.specs.Lines.{GoesOver, IsStoppedBefore, IsStoppedIn, MayHaveGoneOn}
 use Rattle.shared_registry.proofs.LineLemmas.{leads_nowhere, leads_on, over_one}
 
@@ -122,9 +122,9 @@ module _ {L : Type 0} (l : LogGhosts L) (lines : L → LogLines) where
   left_one : (c_new : Cursor L) (s : State) (h last : History) (line : List ℕ) → LeadsTo h last → IsOfMachine (lines c_new.log) last → Grows (record_of last ++ line ∷ []) (lines c_new.log)
       → MayHaveGoneOn s last line → LeavesOfMachine s (lines c_new.log) h
   left_one c_new s h last line leads of grown it =
-      let both : LeadsTo last it.next × IsOfMachine (lines c_new.log) it.next = elim it.goes_on [
-        | inl same ↦ (subst (LeadsTo last) (sym same) (leads_nowhere last), subst (IsOfMachine (lines c_new.log)) (sym same) of)
-        | inr by ↦ (let over = over_one last by.0 line it.next by.1 in (over.leads, of_machine (lines c_new.log) (lines c_new.log) last it.next (line ∷ []) of over grown))
+      let both : GoesOnByOne last it.next × IsOfMachine (lines c_new.log) it.next = elim it.goes_on [
+        | inl same ↦ (inl same, subst (IsOfMachine (lines c_new.log)) (sym same) of)
+        | inr by ↦ (let over = over_one last by.0 line it.next by.1 in (inr (line, by), of_machine (lines c_new.log) (lines c_new.log) last it.next (line ∷ []) of over grown))
       ] in
       record { last = last; next = it.next; leads = leads; goes_on = both.0; last_of = of; next_of = both.1; leaves = it.leaves }
 

@@ -35,13 +35,17 @@ pub record HasOther (old new : LogLines) (h : History) (n : ℕ) : Type 0 where
   pub there : AtSomeInstant old new (λ log. slice_get log n ≡ Some line)
   pub other : (x : History) → ¬ Continues h line x
 
--- A crash leaves one of two histories, of which the second is the first or goes on from it. This history leads to them, and the record of
+-- the second history is the first, or has one request more, whose line goes on with the record
+abbrev pub GoesOnByOne : History → History → Type 0
+GoesOnByOne x y = (y ≡ x) ⊎ ((line : List ℕ) × Continues x line y)
+
+-- A crash leaves one of two histories, of which the second has at most one request more. This history leads to them, and the record of
 -- each begins the log.
 pub record LeavesOfMachine (s : State) (log : LogLines) (h : History) : Type 0 where
   pub last : History
   pub next : History
   pub leads : LeadsTo h last
-  pub goes_on : LeadsTo last next
+  pub goes_on : GoesOnByOne last next
   pub last_of : IsOfMachine log last
   pub next_of : IsOfMachine log next
   pub leaves : Leaves newest s (IsEither last next)
