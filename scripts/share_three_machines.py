@@ -28,7 +28,7 @@ import sys
 import threading
 import time
 
-from lib.three_machines import EARLY_LOG, NEEDED, PATIENCE, Machines, in_namespaces
+from lib.three_machines import DISK, EARLY_LOG, NEEDED, PATIENCE, Machines, in_namespaces
 from lib.usbreg import done, folder, program, same
 
 CLIENTS, SECONDS, CONTROL = 8, 300, 12
@@ -258,9 +258,10 @@ def wrong_records(usbreg, machines, book):
     for machine in machines:
         machine.down = {"usbreg", "nginx"}
         machine.kill("usbreg", "nginx")
-    records = {it.address: done([usbreg, "history", it.store]).decode().splitlines() for it in machines}
+    # (a check replays the record in memory, which takes a long one minutes)
+    records = {it.address: done([usbreg, "history", it.store], seconds=3600).decode().splitlines() for it in machines}
     for machine in machines:
-        done([usbreg, "check", machine.store])
+        done([usbreg, "check", machine.store], seconds=3600)
     kept = {(it["caller"], it["key"]): it["done"] for it in map(json.loads, lines[1:])}
     return len(lines) - 1, {
         f"stores whose record is not the log of {len(lines)} lines": [(at, len(record)) for at, record in records.items() if record != lines],
@@ -326,7 +327,7 @@ def main(seconds=SECONDS, seed=None, given=None):
         with folder() as room:
             it(usbreg, room)
     book = Book()
-    with folder() as room, Machines(usbreg, room) as machines:
+    with folder() as room, Machines(usbreg, room, disk=DISK + seconds // 10) as machines:
         wait_for_all(machines)
         made = with_clients(machines, book, lambda: fail_in_turn(machines, seconds, random.Random(seed)))
         said = f"seed {seed}, {sum(made.values())} faults"

@@ -19,8 +19,8 @@ ALONE = "USBREG_MACHINES"
 NET, COUNT = "10.77.0", 3
 # The names of the machines, and the addresses that contrib/etcd has for them.
 NAMES, GIVEN = ("one", "two", "three"), ("192.0.2.11", "192.0.2.12", "192.0.2.13")
-# The disk of a machine: etcd makes two files of 64 MB for its log.
-DISK = "192m"
+# The megabytes of a machine's disk: etcd makes two files of 64 MB for its log. A longer run needs more for its record.
+DISK = 192
 NAME = "numbers"
 # The log at etcd, and at a program before etcd that answers too early.
 ETCD, EARLY = 2379, 2378
@@ -86,13 +86,13 @@ def address_of(index):
 class Machine:
     """One machine. A thread starts each of its processes again that has ended, as systemd does, unless it is to be down."""
 
-    def __init__(self, usbreg, room, index, log):
+    def __init__(self, usbreg, room, index, log, disk):
         self.usbreg, self.index, self.log = usbreg, index, log
         self.names = ("etcd", *(["early"] if log == EARLY_LOG else []), "usbreg", "nginx")
         self.address, self.folder = address_of(index), f"{room}/m{index}"
         self.store = f"{self.folder}/numbers.db"
         os.mkdir(self.folder)
-        call("mount", "-t", "tmpfs", "-o", f"size={DISK},mode=755", "tmpfs", self.folder)
+        call("mount", "-t", "tmpfs", "-o", f"size={disk}m,mode=755", "tmpfs", self.folder)
         self.state, self.processes, self.down = "new", {}, {"usbreg"}
         self.guard, self.ends = threading.RLock(), threading.Event()
         self.connect()
@@ -278,15 +278,15 @@ class Machine:
 
 
 class Machines:
-    """Three of them, for a `with`. They share the log at an address of each machine, or none."""
+    """Three of them, for a `with`, with disks of so many megabytes. They share the log at an address of each machine, or none."""
 
-    def __init__(self, usbreg, room, log=LOG):
+    def __init__(self, usbreg, room, log=LOG, disk=DISK):
         call("ip", "link", "set", "lo", "up")
         call("ip", "link", "add", "hub", "type", "bridge")
         call("ip", "addr", "add", f"{NET}.100/24", "dev", "hub")
         call("ip", "link", "set", "hub", "up")
         call("openssl", "req", "-x509", "-newkey", "ec", "-pkeyopt", "ec_paramgen_curve:prime256v1", "-nodes", "-keyout", f"{room}/ca.key", "-out", f"{room}/ca.crt", "-subj", "/CN=peers", "-days", "2")
-        self.all = [Machine(usbreg, room, index, log) for index in range(COUNT)]
+        self.all = [Machine(usbreg, room, index, log, disk) for index in range(COUNT)]
         for it in self.all:
             it.thread.start()
         if log:
