@@ -37,7 +37,7 @@
 //!
 //! After an append that failed the line may have been taken, or may be taken later. No contract
 //! says that etcd is at the other end, that it reads a message as its request, or that it keeps
-//! what it said (`IsKept` of `shared_log`). Nor does one say how long a call takes: each call of
+//! what it said (`KeepsLines` of `shared_log`). Nor does one say how long a call takes: each call of
 //! the connection has a limit, and a message has none.
 #![tactic(auto)]
 

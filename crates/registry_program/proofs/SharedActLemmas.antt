@@ -21,7 +21,7 @@ use Rattle.registry_commands.specs.declared.messages.Failure.{Failure}
 use Rattle.registry_commands.specs.declared.status.ExitStatus.{ExitStatus}
 use Rattle.registry_commands.specs.declared.status.ExitStatus.TheVariants.{Success, Failed, Rejected}
 use Rattle.registry_commands.specs.Ends.{Ends, Output}
-use Rattle.shared_log.specs.Calls.{IsKept, LogLines}
+use Rattle.shared_log.specs.Calls.{KeepsLines, LogLines}
 use Rattle.shared_log.specs.declared.log.Log as log
 use Rattle.shared_registry.specs.Follows.{Follows, IsAnswered}
 use Rattle.shared_registry.specs.Lines.{fault_in, fault_of}
@@ -63,7 +63,7 @@ module _ {S L : Type 0} {g : Ghosts S} (l : log.Ghosts L) (it : Did S g L) where
   import_clean OfInput import bytes (inl nothing) clean = nothing_clean _ nothing clean
   import_clean OfInput import bytes (inr one) clean = omega (arith, one.5.endures.clean, clean)
 
-  module _ (lines : L → LogLines) (kept : IsKept l lines) (h : History) (follows : Follows l lines it.old it.from h) (clean : HasCleanDisk (state_of it.new)) where
+  module _ (lines : L → LogLines) (kept : KeepsLines l lines) (h : History) (follows : Follows l lines it.old it.from h) (clean : HasCleanDisk (state_of it.new)) where
     abbrev Over : Option Fault → History → Type 0
     Over = LeavesOver l lines it.new it.to clean
 
@@ -115,7 +115,7 @@ module _ {S L : Type 0} {g : Ghosts S} (l : log.Ghosts L) (it : Did S g L) where
     lines_clean file a (inl standard) clean = apply_clean _ _ a standard.2.2 clean
     lines_clean file a (inr named) clean = elim named.2 [ inl read ↦ apply_clean _ _ a read.3.2 clean | inr not ↦ unopened_clean not.0 not.2 clean ]
 
-    lines_over : (file : List ℕ) (a : ℕ) → AnswersNamed l it m s r file a input input_new old new → (lines : L → LogLines) → IsKept l lines → (h : History) → Follows l lines it.old it.from h → (clean : HasCleanDisk (state_of it.new))
+    lines_over : (file : List ℕ) (a : ℕ) → AnswersNamed l it m s r file a input input_new old new → (lines : L → LogLines) → KeepsLines l lines → (h : History) → Follows l lines it.old it.from h → (clean : HasCleanDisk (state_of it.new))
         → LeavesOver l lines it.new it.to clean (fault_in it.end) h
     lines_over file a (inl standard) lines kept h follows clean = apply_over lines kept h follows clean _ _ a standard.2.2
     lines_over file a (inr named) lines kept h follows clean = elim named.2 [
@@ -127,7 +127,7 @@ module _ {S L : Type 0} {g : Ghosts S} (l : log.Ghosts L) (it : Did S g L) where
     list_clean list import (inl standard) clean = import_clean _ import standard.2.0 standard.2.2 clean
     list_clean list import (inr named) clean = elim named.2 [ inl read ↦ import_clean _ import read.3.0 read.3.2 clean | inr not ↦ unopened_clean not.0 not.2 clean ]
 
-    list_over : (list : List ℕ) (import : Import) → AnswersListOf l it m s r list import input input_new old new → (lines : L → LogLines) → IsKept l lines → (h : History) → Follows l lines it.old it.from h → (clean : HasCleanDisk (state_of it.new))
+    list_over : (list : List ℕ) (import : Import) → AnswersListOf l it m s r list import input input_new old new → (lines : L → LogLines) → KeepsLines l lines → (h : History) → Follows l lines it.old it.from h → (clean : HasCleanDisk (state_of it.new))
         → LeavesOver l lines it.new it.to clean (fault_in it.end) h
     list_over list import (inl standard) lines kept h follows clean = import_over lines kept h follows clean _ import standard.2.0 standard.2.2
     list_over list import (inr named) lines kept h follows clean = elim named.2 [

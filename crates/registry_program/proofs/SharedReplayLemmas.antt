@@ -20,7 +20,7 @@ use Rattle.registry_store.proofs.CrashLemmas.{closed_clean, in_newest}
 use Rattle.registry_store.proofs.IsQueryLemmas.{untouched_itself}
 use Rattle.registry_commands.specs.Ends.{Ends}
 use Rattle.registry_commands.specs.Replayed.{IsFoundOrOpen, IsLeftFound, connection_left}
-use Rattle.shared_log.specs.Calls.{IsKept, LogLines}
+use Rattle.shared_log.specs.Calls.{KeepsLines, LogLines}
 use Rattle.shared_log.specs.declared.log.Log as log
 use Rattle.shared_registry.specs.Cursors.{log_of}
 use Rattle.shared_registry.specs.Follows.{HasFollowed, IsLeft}
@@ -74,7 +74,7 @@ module _ {H F I K : Type 0} (m : host.Ghosts H F I) (d : disk.Ghosts F) (k : log
         was_clean : HasCleanDisk (state_of after) → HasCleanDisk (state_of it)
         was_clean clean = omega (arith, followed.taken.joins.untouched.survives.clean, followed.does.replays.endures.clean, clean)
 
-        later : (lines : K → LogLines) → IsKept l lines → (h : History) → HasValidFields h → Represents it h → (clean : HasCleanDisk (state_of after))
+        later : (lines : K → LogLines) → KeepsLines l lines → (h : History) → HasValidFields h → Represents it h → (clean : HasCleanDisk (state_of after))
             → LeavesOver l lines after followed.does.left clean (fault_in followed.does.end) h
         later lines kept h valid stands clean =
             let did = followed.does.replays in

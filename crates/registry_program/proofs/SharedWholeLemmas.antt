@@ -15,7 +15,7 @@ use Rattle.registry_store.specs.declared.registry.Registry.{Registry}
 use Rattle.registry_commands.specs.Ends.{Ends}
 use Rattle.registry_desk.specs.Server.{Visit}
 use Rattle.registry_desk.specs.declared.server.Connections as connections
-use Rattle.shared_log.specs.Calls.{IsKept, LogLines}
+use Rattle.shared_log.specs.Calls.{KeepsLines, LogLines}
 use Rattle.shared_log.specs.declared.log.Log as log
 use Rattle.shared_registry.specs.Cursors.{log_of}
 use Rattle.shared_registry.specs.Follows.{Follows, FollowsLater, IsLeft}
@@ -94,7 +94,7 @@ module _ {H F I K : Type 0} (m : host.Ghosts H F I) (d : disk.Ghosts F) (k : log
 
   -- what was done over the log that the registry followed leads to later histories
   pub leads_over : (found : H) (middle : TheRegistry m d) (cursor left : Cursor K) (fault : Option Fault) → IsTakenUp k l address over.opened found over.it middle (Ok cursor) → (HasCleanDisk (state_of over.after) → HasCleanDisk (state_of middle))
-      → ((lines : K → LogLines) → IsKept l lines → (h : History) → Follows l lines middle cursor h → (clean : HasCleanDisk (state_of over.after)) → LeavesOver l lines over.after left clean fault h)
+      → ((lines : K → LogLines) → KeepsLines l lines → (h : History) → Follows l lines middle cursor h → (clean : HasCleanDisk (state_of over.after)) → LeavesOver l lines over.after left clean fault h)
       → LeadsFilesOver m d l old path over.closes.files left fault
   leads_over found middle cursor left fault taken endures later lines kept h valid =
       let before : HasCleanDisk (state_of over.after) → HasCleanDisk (state_of over.it) = λ clean. omega (arith, taken.joins.untouched.survives.clean, endures clean) in

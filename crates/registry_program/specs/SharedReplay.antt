@@ -14,7 +14,7 @@ use Rattle.registry_commands.specs.declared.messages.Failure.{Failure}
 use Rattle.registry_commands.specs.declared.status.ExitStatus.{ExitStatus}
 use Rattle.registry_commands.specs.Ends.{Ends, Sunk}
 use Rattle.registry_commands.specs.Replayed.{IsFoundOrOpen, IsLeftFound, connection_left}
-use Rattle.shared_log.specs.Calls.{AtSomeInstant, IsKept, LogLines}
+use Rattle.shared_log.specs.Calls.{AtSomeInstant, KeepsLines, LogLines}
 use Rattle.shared_log.specs.declared.log.Log as log
 use Rattle.shared_registry.specs.Asks.{AppendsNothing, IsAsked}
 use Rattle.shared_registry.specs.Cursors.{log_of}
@@ -33,8 +33,8 @@ use Rattle.registry_program.specs.Stores.{Closes, IsConnected, IsUnconnected, Th
 module _ {S L : Type 0} {g : store.Ghosts S} (l : log.Ghosts L) (it after : Registry S g) (cursor left : Cursor L) (end : Result (Unit {0}) ShareStop) where
   -- a registry acted on the lines of its log, as `follow` says
   pub record HasReplayedLog : Type 0 where
-    pub whole : (lines : L → LogLines) → IsKept l lines → (h : History) → Follows l lines it cursor h → HasCleanDisk (state_of after) → OnOk end (HasFollowed l lines cursor after left h)
-    pub stopped : (lines : L → LogLines) → IsKept l lines → (h : History) → Follows l lines it cursor h → HasCleanDisk (state_of after) → IfErr end (IsLeft l lines cursor after left h)
+    pub whole : (lines : L → LogLines) → KeepsLines l lines → (h : History) → Follows l lines it cursor h → HasCleanDisk (state_of after) → OnOk end (HasFollowed l lines cursor after left h)
+    pub stopped : (lines : L → LogLines) → KeepsLines l lines → (h : History) → Follows l lines it cursor h → HasCleanDisk (state_of after) → IfErr end (IsLeft l lines cursor after left h)
     pub asks : IsAsked l AppendsNothing cursor.log left.log
     pub notes : NotesForeign it after (fault_in end)
     pub endures : Endures (state_of it) (state_of after)
@@ -58,7 +58,7 @@ module _ {H K : Type 0} (k : logs.Ghosts H K) (l : log.Ghosts K) where
     pub log : K
     pub last : K
     pub finds : k.finds old found address log
-    pub begins : (lines : K → LogLines) → IsKept l lines → AtSomeInstant (lines log) (lines last) (BeginsWith founding)
+    pub begins : (lines : K → LogLines) → KeepsLines l lines → AtSomeInstant (lines log) (lines last) (BeginsWith founding)
     pub asks : IsAsked l AppendsNothing log last
     pub closes : k.closes found new last
 
@@ -69,7 +69,7 @@ module _ {H K : Type 0} (k : logs.Ghosts H K) (l : log.Ghosts K) where
     pub last : K
     pub finds : k.finds old found address log
     pub stop : ShareStop
-    pub why : (lines : K → LogLines) → IsKept l lines → HasNoFounding l lines log last stop
+    pub why : (lines : K → LogLines) → KeepsLines l lines → HasNoFounding l lines log last stop
     pub asks : IsAsked l AppendsNothing log last
     pub leaves : k.leaves found new last stop
     pub tells : TellsStop stop ends

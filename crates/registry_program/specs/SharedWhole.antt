@@ -23,7 +23,7 @@ use Rattle.registry_tables.specs.Rows.{newest}
 use Rattle.registry_store.specs.Files.{HoldEither}
 use Rattle.registry_store.specs.declared.fault.Fault.{Fault}
 use Rattle.registry_desk.specs.declared.server.Connections as connections
-use Rattle.shared_log.specs.Calls.{IsKept, LogLines}
+use Rattle.shared_log.specs.Calls.{KeepsLines, LogLines}
 use Rattle.shared_log.specs.declared.log.Log as log
 use Rattle.shared_registry.specs.Cursors.{log_of}
 use Rattle.shared_registry.specs.declared.cursor.Cursor.{Cursor}
@@ -57,7 +57,7 @@ IsLeftOver log fault h x y = LeadsTo h x × MayGoOn fault x y × IsOfMachine log
 -- one of two.
 abbrev pub LeadsFilesOver : {H F I K : Type 0} → host.Ghosts H F I → disk.Ghosts F → log.Ghosts K → H → List ℕ → Files F → Cursor K → Option Fault → Type 0
 LeadsFilesOver {K = K} m d l old path files left fault =
-    (lines : K → LogLines) → IsKept l lines → (h : History) → HasValidFields h → LeadsFilesTo m d old path files h h (IsLeftOver (lines (log_of left)) fault h)
+    (lines : K → LogLines) → KeepsLines l lines → (h : History) → HasValidFields h → LeadsFilesTo m d old path files h h (IsLeftOver (lines (log_of left)) fault h)
 
 module _ {H F I R W K : Type 0} (m : host.Ghosts H F I) (d : disk.Ghosts F) (c : connections.Ghosts H R W) (r : source.Ghosts R) (w : sink.Ghosts W) (k : logs.Ghosts H K) (l : log.Ghosts K) where
   -- the log was taken up, and connections were served over it
@@ -109,7 +109,7 @@ module _ {H F I K : Type 0} (m : host.Ghosts H F I) (d : disk.Ghosts F) (k : log
   -- one of two.
   abbrev pub AreMadeOver : Files F → Cursor K → Option Fault → Type 0
   AreMadeOver files left fault =
-      (lines : K → LogLines) → IsKept l lines → HasValidFields (founded founding) → AreClean d files.log files.db
+      (lines : K → LogLines) → KeepsLines l lines → HasValidFields (founded founding) → AreClean d files.log files.db
       → (x : History) × (y : History) × IsLeftOver (lines (log_of left)) fault (founded founding) x y × HoldEither d newest files x y
 
   -- The log was taken up, and its lines were acted on, over the registry that the store held, or over a new one where it held no tables of

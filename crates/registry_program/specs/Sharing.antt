@@ -18,7 +18,7 @@ use Rattle.registry_commands.specs.Failures.{Prints}
 use Rattle.registry_commands.specs.Messages.{failure_of}
 use Rattle.registry_desk.specs.declared.server.Connections as connections
 use Rattle.registry_desk.specs.Server.{HaveVisited, Visit}
-use Rattle.shared_log.specs.Calls.{IsKept, LogLines}
+use Rattle.shared_log.specs.Calls.{KeepsLines, LogLines}
 use Rattle.shared_log.specs.declared.fault.LogFault.TheVariants as log_faults
 use Rattle.shared_log.specs.declared.log.Log as log
 use Rattle.shared_registry.specs.Asks.{AppendsNothing, AppendsRecord, IsAsked, IsAskedFor}
@@ -84,8 +84,8 @@ TellsStop stops.Full ends = IsLogFailure ends
 module _ {S L : Type 0} {g : store.Ghosts S} (l : log.Ghosts L) (it after : Registry S g) (log : L) (end : Result (Cursor L) (ShareStop × L)) where
   -- the registry took up a log, or this stopped it, and nothing was committed
   pub record TakesUp : Type 0 where
-    pub follows : (lines : L → LogLines) → IsKept l lines → (h : History) → Represents it h → HasValidFields h → HasCleanDisk (state_of after) → IfOk end (λ cursor. Follows l lines after cursor h)
-    pub stopped : (lines : L → LogLines) → IsKept l lines → (h : History) → Represents it h → HasValidFields h → HasCleanDisk (state_of after) → IfErr end (λ left. IsUnshared l lines h log left.1 left.0)
+    pub follows : (lines : L → LogLines) → KeepsLines l lines → (h : History) → Represents it h → HasValidFields h → HasCleanDisk (state_of after) → IfOk end (λ cursor. Follows l lines after cursor h)
+    pub stopped : (lines : L → LogLines) → KeepsLines l lines → (h : History) → Represents it h → HasValidFields h → HasCleanDisk (state_of after) → IfErr end (λ left. IsUnshared l lines h log left.1 left.0)
     pub untouched : IsUntouched it after
     pub notes : NotesForeign it after (fault_in (stop_in end))
     pub when_poisoned : is_poisoned it ≡ true → stop_in end ≡ Err (stops.Registry faults.Poisoned)
@@ -152,9 +152,9 @@ module _ {H F I R W K : Type 0} (m : host.Ghosts H F I) (c : connections.Ghosts 
         × desk.EndsConnections c.fails middle new end
         × (length visits ≤ limit) × OnOk end (length visits ≡ limit)
         × desk.IsToldLast visits (desk.stop_in end)
-        × ((lines : K → LogLines) → IsKept l lines → (h : History) → Follows l lines it cursor h → HasCleanDisk (state_of after) → desk.EndsOver l lines cursor after cursor_new h visits (desk.stop_in end))
+        × ((lines : K → LogLines) → KeepsLines l lines → (h : History) → Follows l lines it cursor h → HasCleanDisk (state_of after) → desk.EndsOver l lines cursor after cursor_new h visits (desk.stop_in end))
         × (is_poisoned it ≡ true → All desk.IsTurnedAwayAt visits × (after ≡ it) × (cursor_new ≡ cursor))
-        × ((lines : K → LogLines) → IsKept l lines → (h : History) → Follows l lines it cursor h → HasCleanDisk (state_of after) → IsAsked l (AppendsOrdersIn (lines cursor_new.log) h visits) cursor.log cursor_new.log)
+        × ((lines : K → LogLines) → KeepsLines l lines → (h : History) → Follows l lines it cursor h → HasCleanDisk (state_of after) → IsAsked l (AppendsOrdersIn (lines cursor_new.log) h visits) cursor.log cursor_new.log)
     pub notes : NotesForeign it after (fault_behind (desk.stop_in end))
     pub endures : Endures (state_of it) (state_of after)
 

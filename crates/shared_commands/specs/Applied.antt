@@ -14,7 +14,7 @@ use Rattle.registry_commands.specs.declared.status.ExitStatus.TheVariants.{Succe
 use Rattle.registry_commands.specs.Ends.{Output, output_of}
 use Rattle.registry_commands.specs.Failures.{Prints, PrintsFailure}
 use Rattle.registry_commands.specs.Messages.{bad_line_text, exceeds_text, failure_line}
-use Rattle.shared_log.specs.Calls.{IsKept, LogLines}
+use Rattle.shared_log.specs.Calls.{KeepsLines, LogLines}
 use Rattle.shared_log.specs.declared.log.Log.{Ghosts as LogGhosts}
 use Rattle.shared_registry.specs.Follows.{Follows}
 use Rattle.shared_registry.specs.Lines.{fault_in}
@@ -55,7 +55,7 @@ module _ {S : Type 0} {g : Ghosts S} {L : Type 0} (l : LogGhosts L) (it : Did S 
 
   -- this holds of each history that the registry followed the log with
   abbrev pub FollowedWith : ((L → LogLines) → History → Type 0) → Type 0
-  FollowedWith Then = (lines : L → LogLines) → IsKept l lines → (h : History) → Follows l lines it.old it.from h → HasCleanDisk (state_of it.new) → Then lines h
+  FollowedWith Then = (lines : L → LogLines) → KeepsLines l lines → (h : History) → Follows l lines it.old it.from h → HasCleanDisk (state_of it.new) → Then lines h
 
   -- how requests were answered: all of them; up to one whose line was cut, which is printed; or up to one that was stopped, which is not
   abbrev pub EndsRun : List Request → Result ExitStatus ShareStop → Type 0

@@ -5,7 +5,7 @@ ghost use Rattle.sqlite.specs.State.{HasCleanDisk};
 ghost use Rattle.registry_rules.specs.History.{History};
 ghost use Rattle.registry_store.specs.Promise.{Endures, NotesForeign, is_poisoned, state_of};
 ghost use Rattle.registry_commands.specs.Ends.{output_of};
-ghost use Rattle.shared_log.specs.Calls.{IsKept, LogLines};
+ghost use Rattle.shared_log.specs.Calls.{KeepsLines, LogLines};
 ghost use Rattle.shared_registry.specs.Asks.{AppendsRequest, IsAsked};
 ghost use Rattle.shared_registry.specs.Follows.{Follows};
 ghost use Rattle.shared_registry.specs.declared.stop.ShareStop.TheVariants as shares;
@@ -38,11 +38,11 @@ pub(crate) fn answer<S: Alter, L: Log, W: Sink>(
     request: &Request,
     output: &mut W,
 ) -> Result<ExitStatus, AnswerStop>
-    ensures ok { (lines : L → LogLines) → IsKept L.Log lines → (h : History) → Follows L.Log lines registry.old cursor.old h → HasCleanDisk (state_of registry.new)
+    ensures ok { (lines : L → LogLines) → KeepsLines L.Log lines → (h : History) → Follows L.Log lines registry.old cursor.old h → HasCleanDisk (state_of registry.new)
         → IfOk result (HasReplied L.Log lines registry.new cursor.new cursor.old h request.now (output_of W.Sink output.old output.new)) }
-    ensures err { (lines : L → LogLines) → IsKept L.Log lines → (h : History) → Follows L.Log lines registry.old cursor.old h → HasCleanDisk (state_of registry.new)
+    ensures err { (lines : L → LogLines) → KeepsLines L.Log lines → (h : History) → Follows L.Log lines registry.old cursor.old h → HasCleanDisk (state_of registry.new)
         → IfErr result (IsCut L.Log lines registry.new cursor.new cursor.old h request.now (W.contents output.old) (W.contents output.new)) }
-    ensures asks { (lines : L → LogLines) → IsKept L.Log lines → (h : History) → Follows L.Log lines registry.old cursor.old h → HasCleanDisk (state_of registry.new)
+    ensures asks { (lines : L → LogLines) → KeepsLines L.Log lines → (h : History) → Follows L.Log lines registry.old cursor.old h → HasCleanDisk (state_of registry.new)
         → IsAsked L.Log (AppendsRequest (lines cursor.new.log) h request.now) cursor.old.log cursor.new.log }
     ensures when_poisoned { is_poisoned registry.old ≡ true → (result ≡ Err (stops.Share (shares.Registry Fault.Poisoned))) × (registry.new ≡ registry.old) × (cursor.new ≡ cursor.old) }
     ensures kept { OnOk result (W.failures output.new ≡ W.failures output.old) }
@@ -69,9 +69,9 @@ pub(crate) fn answer_all<S: Alter, L: Log, W: Sink>(
     requests: &[Request],
     output: &mut W,
 ) -> Result<(), AnswerStop>
-    ensures ok { (lines : L → LogLines) → IsKept L.Log lines → (h : History) → Follows L.Log lines registry.old cursor.old h → HasCleanDisk (state_of registry.new)
+    ensures ok { (lines : L → LogLines) → KeepsLines L.Log lines → (h : History) → Follows L.Log lines registry.old cursor.old h → HasCleanDisk (state_of registry.new)
         → OnOk result (HasAnswered L.Log lines registry.new cursor.new cursor.old h requests.now (output_of W.Sink output.old output.new)) }
-    ensures err { (lines : L → LogLines) → IsKept L.Log lines → (h : History) → Follows L.Log lines registry.old cursor.old h → HasCleanDisk (state_of registry.new)
+    ensures err { (lines : L → LogLines) → KeepsLines L.Log lines → (h : History) → Follows L.Log lines registry.old cursor.old h → HasCleanDisk (state_of registry.new)
         → IfErr result (HasAnsweredSome L.Log lines registry.new cursor.new cursor.old h requests.now (output_of W.Sink output.old output.new)) }
     ensures when_poisoned { is_poisoned registry.old ≡ true → (registry.new ≡ registry.old) × (cursor.new ≡ cursor.old) × (W.contents output.new ≡ W.contents output.old) }
     ensures kept { OnOk result (W.failures output.new ≡ W.failures output.old) }

@@ -23,7 +23,7 @@
 //!
 //! # Premises
 //!
-//! Those of `shared_registry`: the log keeps its lines (`IsKept`), and the registry follows it
+//! Those of `shared_registry`: the log keeps its lines (`KeepsLines`), and the registry follows it
 //! (`Follows`).
 #![tactic(auto)]
 

@@ -23,7 +23,7 @@ use Rattle.registry_desk.specs.Serving.{Sends}
 use Rattle.registry_desk.proofs.CacheLemmas.{none_are}
 use Rattle.registry_desk.proofs.ServeLemmas.{status_503}
 use Rattle.registry_desk.proofs.ServerLemmas.{length_more, visited_more}
-use Rattle.shared_log.specs.Calls.{IsKept, LogLines}
+use Rattle.shared_log.specs.Calls.{KeepsLines, LogLines}
 use Rattle.shared_log.specs.declared.fault.LogFault.{LogFault}
 use Rattle.shared_log.specs.declared.log.Log.{Ghosts as LogGhosts}
 use Rattle.shared_registry.specs.Asks.{IsAsked}
@@ -133,9 +133,9 @@ module _ {S C R W : Type 0} {g : Ghosts S} {L : Type 0} (l : LogGhosts L) (opens
   Came old new it last c c_new cache cache_new stop = (visit : Visit)
       × IsVisit opens closes remaining reads_failed contents writes_failed old new visit
       × IsToldAt visit stop
-      × ((lines : L → LogLines) → IsKept l lines → (h : History) → Follows l lines it c h → HasCleanDisk (state_of last) → AreTextsOf h cache → EndsBeside l lines c last c_new h visit cache_new stop)
+      × ((lines : L → LogLines) → KeepsLines l lines → (h : History) → Follows l lines it c h → HasCleanDisk (state_of last) → AreTextsOf h cache → EndsBeside l lines c last c_new h visit cache_new stop)
       × (is_poisoned it ≡ true → IsTurnedAwayAt visit × (last ≡ it) × (c_new ≡ c))
-      × ((lines : L → LogLines) → IsKept l lines → (h : History) → Follows l lines it c h → HasCleanDisk (state_of last) → IsAsked l (AppendsOrderIn (lines c_new.log) h visit.bytes) c.log c_new.log)
+      × ((lines : L → LogLines) → KeepsLines l lines → (h : History) → Follows l lines it c h → HasCleanDisk (state_of last) → IsAsked l (AppendsOrderIn (lines c_new.log) h visit.bytes) c.log c_new.log)
 
   -- a message was served between the opening and the closing of a connection
   pub visit_of : (old opened new : C) (reader reader_new : R) (writer writer_new : W) (it last : Registry S g) (c c_new : Cursor L) (cache cache_new : Cache) (turn : Result Turn Broken) (status : Option ℕ) (stop : Option ShareStop) (bytes : List ℕ)
@@ -143,9 +143,9 @@ module _ {S C R W : Type 0} {g : Ghosts S} {L : Type 0} (l : LogGhosts L) (opens
       → IfOk turn (λ turn. (response : Response) × Sends contents writes_failed writer writer_new response turn.served.status
       × (turn.served.fault ≡ fault_behind turn.stop)
       × IsToldBy turn.stop response
-      × ((lines : L → LogLines) → IsKept l lines → (h : History) → Follows l lines it c h → HasCleanDisk (state_of last) → AreTextsOf h cache → IsServedBeside l lines c last c_new h bytes response cache_new turn.stop)
+      × ((lines : L → LogLines) → KeepsLines l lines → (h : History) → Follows l lines it c h → HasCleanDisk (state_of last) → AreTextsOf h cache → IsServedBeside l lines c last c_new h bytes response cache_new turn.stop)
       × (is_poisoned it ≡ true → IsTurnedAway bytes response turn.stop × (last ≡ it) × (c_new ≡ c))
-      × ((lines : L → LogLines) → IsKept l lines → (h : History) → Follows l lines it c h → HasCleanDisk (state_of last) → IsAsked l (AppendsOrderIn (lines c_new.log) h bytes) c.log c_new.log))
+      × ((lines : L → LogLines) → KeepsLines l lines → (h : History) → Follows l lines it c h → HasCleanDisk (state_of last) → IsAsked l (AppendsOrderIn (lines c_new.log) h bytes) c.log c_new.log))
       → OnErr turn (FailsAfter (remaining reader) (remaining reader_new) (reads_failed reader) (reads_failed reader_new) IsIncomplete × (writer_new ≡ writer) × (last ≡ it) × (c_new ≡ c) × (cache_new ≡ cache))
       → OnOk turn (reads_failed reader_new ≡ reads_failed reader)
       → Came old new it last c c_new cache cache_new stop
@@ -204,17 +204,17 @@ module _ {S C R W : Type 0} {g : Ghosts S} {L : Type 0} (l : LogGhosts L) (opens
       × EndsConnections fails middle new result
       × (length visits ≤ count) × OnOk result (length visits ≡ count)
       × IsToldLast visits (stop_in result)
-      × ((lines : L → LogLines) → IsKept l lines → (h : History) → Follows l lines first c h → HasCleanDisk (state_of last) → EndsOver l lines c last c_new h visits (stop_in result))
+      × ((lines : L → LogLines) → KeepsLines l lines → (h : History) → Follows l lines first c h → HasCleanDisk (state_of last) → EndsOver l lines c last c_new h visits (stop_in result))
       × (is_poisoned first ≡ true → All IsTurnedAwayAt visits × (last ≡ first) × (c_new ≡ c))
-      × ((lines : L → LogLines) → IsKept l lines → (h : History) → Follows l lines first c h → HasCleanDisk (state_of last) → IsAsked l (AppendsOrdersIn (lines c_new.log) h visits) c.log c_new.log)
+      × ((lines : L → LogLines) → KeepsLines l lines → (h : History) → Follows l lines first c h → HasCleanDisk (state_of last) → IsAsked l (AppendsOrdersIn (lines c_new.log) h visits) c.log c_new.log)
 
   -- a server ends when no more connections come, or at a stop
   pub ended_by : (old middle new : C) (first mid last : Registry S g) (c c_mid c_new : Cursor L) (cache cache_new : Cache) (count : ℕ) (visits : List Visit) (stop : SharedStop)
       → HaveVisited opens closes remaining reads_failed contents writes_failed old middle visits → length visits < count
       → (HasCleanDisk (state_of last) → HasCleanDisk (state_of mid))
-      → ((lines : L → LogLines) → IsKept l lines → (h : History) → Follows l lines first c h → HasCleanDisk (state_of mid) → FollowsBeside l lines c h mid c_mid cache visits)
+      → ((lines : L → LogLines) → KeepsLines l lines → (h : History) → Follows l lines first c h → HasCleanDisk (state_of mid) → FollowsBeside l lines c h mid c_mid cache visits)
       → (is_poisoned first ≡ true → All IsTurnedAwayAt visits × (mid ≡ first) × (c_mid ≡ c))
-      → ((lines : L → LogLines) → IsKept l lines → (h : History) → Follows l lines first c h → HasCleanDisk (state_of mid) → IsAsked l (AppendsOrdersIn (lines c_mid.log) h visits) c.log c_mid.log)
+      → ((lines : L → LogLines) → KeepsLines l lines → (h : History) → Follows l lines first c h → HasCleanDisk (state_of mid) → IsAsked l (AppendsOrdersIn (lines c_mid.log) h visits) c.log c_mid.log)
       → IfVisited (Err stop) (Came l opens closes remaining reads_failed contents writes_failed middle new mid last c_mid c_new cache cache_new (stop_in (Err stop)))
       → (stop ≡ ends.Connections → fails middle new × (last ≡ mid) × (c_new ≡ c_mid)) → Ends old new first last c c_new count (Err stop)
   ended_by old middle new first mid last c c_mid c_new cache cache_new count visits ends.Connections before less early so_far turned asked came none =

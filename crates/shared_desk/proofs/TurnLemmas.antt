@@ -8,7 +8,7 @@ use Rattle.registry_rules.specs.declared.founding.Founding.{Founding}
 use Rattle.registry_laws.specs.Machines.{LeadsTo}
 use Rattle.registry_desk.specs.declared.serve.Served.{Served}
 use Rattle.registry_desk.specs.Server.{Visit}
-use Rattle.shared_log.specs.Calls.{Grows, IsKept, LogLines}
+use Rattle.shared_log.specs.Calls.{Grows, KeepsLines, LogLines}
 use Rattle.shared_log.specs.declared.log.Log.{Ghosts as LogGhosts}
 use Rattle.shared_registry.specs.Asks.{IsAsked}
 use Rattle.shared_registry.specs.declared.cursor.Cursor.{Cursor}
@@ -44,7 +44,7 @@ order_earlier log new h x leads grown bytes n line it =
     (it.0, subst (λ (founding : ℕ). Says founding bytes it.0) (ap (λ (f : Founding). f.vendor) (same_founding h x leads)) it.1, (it.2.0, it.2.1, appends_earlier log new h x it.2.0 leads grown n line it.2.2))
 
 -- orders of these connections, and then that of one more
-pub asked_more : {L : Type 0} (l : LogGhosts L) (lines : L → LogLines) → IsKept l lines → (c : Cursor L) (h : History) (visits : List Visit) (c_mid : Cursor L) (x : History) → TurnsOver l lines c h visits c_mid x
+pub asked_more : {L : Type 0} (l : LogGhosts L) (lines : L → LogLines) → KeepsLines l lines → (c : Cursor L) (h : History) (visits : List Visit) (c_mid : Cursor L) (x : History) → TurnsOver l lines c h visits c_mid x
     → (visit : Visit) (c_new : Cursor L) → IsAsked l (AppendsOrdersIn (lines c_mid.log) h visits) c.log c_mid.log → IsAsked l (AppendsOrderIn (lines c_new.log) x visit.bytes) c_mid.log c_new.log
     → IsAsked l (AppendsOrdersIn (lines c_new.log) h (visits ++ visit ∷ [])) c.log c_new.log
 asked_more l lines kept c h visits c_mid x turns visit c_new so_far one =

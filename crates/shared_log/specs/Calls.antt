@@ -38,17 +38,17 @@ AppendMeans n line (Taken other) old new = AtSomeInstant old new (λ log. slice_
 AppendMeans n line Behind old new = AtSomeInstant old new (λ log. length log < n)
 
 -- the lines from n on: all of them, or, if there are more, the first ones
-abbrev pub IsPage : ℕ → PageAnswer → LogLines → Type 0
-IsPage n page log = (rest : LogLines) × (drop n log ≡ page.lines ++ rest) × (page.more ≡ false → rest ≡ [])
+abbrev pub IsLogPage : ℕ → PageAnswer → LogLines → Type 0
+IsLogPage n page log = (rest : LogLines) × (drop n log ≡ page.lines ++ rest) × (page.more ≡ false → rest ≡ [])
 
 -- the number of lines, and the last one
-abbrev pub IsHead : HeadAnswer → LogLines → Type 0
-IsHead head log = (length log ≡ head.count) × (head.last ≡ slice_get log (length log - 1))
+abbrev pub IsLogHead : HeadAnswer → LogLines → Type 0
+IsLogHead head log = (length log ≡ head.count) × (head.last ≡ slice_get log (length log - 1))
 
 -- What is trusted of a log: there are lines that it has at each state, and each answer means what it says of them. A call
 -- without an answer leaves the lines, with others behind them, of which the line of an append may be one.
-pub record IsKept {L : Type 0} (g : Ghosts L) (lines : L → LogLines) : Type 0 where
+pub record KeepsLines {L : Type 0} (g : Ghosts L) (lines : L → LogLines) : Type 0 where
   pub appends : (old new : L) (n : ℕ) (line : List ℕ) (answer : AppendAnswer) → g.appends old new n line answer → AppendMeans n line answer (lines old) (lines new)
-  pub reads : (old new : L) (n : ℕ) (page : PageAnswer) → g.reads old new n page → AtSomeInstant (lines old) (lines new) (IsPage n page)
-  pub looks : (old new : L) (head : HeadAnswer) → g.looks old new head → AtSomeInstant (lines old) (lines new) (IsHead head)
+  pub reads : (old new : L) (n : ℕ) (page : PageAnswer) → g.reads old new n page → AtSomeInstant (lines old) (lines new) (IsLogPage n page)
+  pub looks : (old new : L) (head : HeadAnswer) → g.looks old new head → AtSomeInstant (lines old) (lines new) (IsLogHead head)
   pub fails : (old new : L) → g.fails old new → Grows (lines old) (lines new)

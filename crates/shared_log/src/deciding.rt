@@ -1,7 +1,7 @@
 //! What a log does with an append, and what it shows of its lines.
 
 ghost use Rattle.std.specs.Prelude.{◌≡◌, ◌≤◌, ◌++◌, ℕ, List, [], false, drop, length, slice_get, IfNone, IfOk, IfSome, OnErr};
-ghost use Rattle.shared_log.specs.Calls.{AppendMeans, IsHead, IsPage};
+ghost use Rattle.shared_log.specs.Calls.{AppendMeans, IsLogHead, IsLogPage};
 
 use crate::answers::{AppendAnswer, HeadAnswer, PageAnswer};
 use crate::line::{Line, Lines};
@@ -79,14 +79,14 @@ pub(crate) fn page_of(
     n: u32,
     most: usize,
 ) -> Result<PageAnswer, NoMemory>
-    ensures { IfOk result (λ page. IsPage n page lines.now) }
+    ensures { IfOk result (λ page. IsLogPage n page lines.now) }
 {
     first_of(alloc, lines_after(lines.as_slice(), n as usize), most)
 }
 
 // Returns the number of lines and the last one, or None if there are 2^32 or more.
 pub(crate) fn head_of(lines: &Lines) -> Result<Option<HeadAnswer>, NoMemory>
-    ensures { IfOk result (λ found. IfSome found (λ head. IsHead head lines.now)) }
+    ensures { IfOk result (λ found. IfSome found (λ head. IsLogHead head lines.now)) }
 {
     let Ok(count) = u32::try_from(lines.len()) else {
         return Ok(None);

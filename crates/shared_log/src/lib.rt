@@ -2,15 +2,15 @@
 //! in memory for tests.
 //!
 //! A `Log` keeps one list of lines, which several machines read and append to. Calls of others may
-//! come before, inside and after each of ours. `IsKept` says what each answer means of the lines
-//! before and after the call (`AppendMeans`, `IsPage`, `IsHead`, `AtSomeInstant`), and is the
+//! come before, inside and after each of ours. `KeepsLines` says what each answer means of the lines
+//! before and after the call (`AppendMeans`, `IsLogPage`, `IsLogHead`, `AtSomeInstant`), and is the
 //! premise about a log on other machines: it keeps what it said that it has, and takes one line for
 //! a number. A call without an answer says only that the log has not lost a line; an append may
 //! have been taken, or may be taken later.
 //!
 //! [`MemoryLog`] keeps that, whatever becomes of its calls: each answer means what it says, and
 //! after each call without an answer its lines are there, maybe with others behind them
-//! (`lines_of`). `set_fates` says what becomes of the next calls.
+//! (`decided_lines`). `set_fates` says what becomes of the next calls.
 #![tactic(auto)]
 
 mod answers;

@@ -10,7 +10,7 @@ use std::alloc::Global;
 
 /// A log of lines that several machines share.
 ///
-/// `IsKept` says what its answers mean, and is the premise about a log: it keeps what it said it
+/// `KeepsLines` says what its answers mean, and is the premise about a log: it keeps what it said it
 /// has, and takes one line for a number. No contract of a log on other machines can say so.
 pub trait Log {
     /// One call was to append this line under this number, and got this answer.

@@ -1,7 +1,7 @@
 //! A log in memory, for tests.
 
 ghost use Rattle.std.specs.Prelude.{◌≡◌, IfOk, OnErr};
-ghost use Rattle.shared_log.specs.Calls.{AppendMeans, AtSomeInstant, Grows, IsHead, IsPage};
+ghost use Rattle.shared_log.specs.Calls.{AppendMeans, AtSomeInstant, Grows, IsLogHead, IsLogPage};
 
 use crate::answers::{AppendAnswer, HeadAnswer, PageAnswer};
 use crate::deciding::{decide, head_of, page_of};
@@ -58,11 +58,11 @@ fn land(alloc: Global, lines: &mut Lines, late: Option<Late>) -> Result<(), NoMe
 
 impl MemoryLog {
     ghost use Rattle.std.specs.Prelude.{◌≡◌, []};
-    ghost use Rattle.shared_log.specs.Memory.{lines_of};
+    ghost use Rattle.shared_log.specs.Memory.{decided_lines};
 
     /// Makes a log without a line, which gives at most so many lines in one answer, and at least one.
     pub fn new(alloc: Global, most: u16) -> MemoryLog
-        ensures { lines_of result ≡ [] }
+        ensures { decided_lines result ≡ [] }
     {
         MemoryLog {
             lines: Lines::new(alloc),
@@ -74,7 +74,7 @@ impl MemoryLog {
 
     /// Returns the lines.
     pub fn lines(&self) -> &Lines
-        ensures { result.now ≡ lines_of self.now }
+        ensures { result.now ≡ decided_lines self.now }
     {
         &self.lines
     }
@@ -82,14 +82,14 @@ impl MemoryLog {
     /// Says what becomes of the next calls: the last of these is that of the next one. Later calls are
     /// answered.
     pub fn set_fates(&mut self, fates: Vec<Fate>)
-        ensures { lines_of self.new ≡ lines_of self.old }
+        ensures { decided_lines self.new ≡ decided_lines self.old }
     {
         self.fates = fates;
     }
 
     // Returns what becomes of this call.
     fn next_fate(&mut self) -> Fate
-        ensures { lines_of self.new ≡ lines_of self.old }
+        ensures { decided_lines self.new ≡ decided_lines self.old }
     {
         self.fates.pop().unwrap_or(Fate::Answers)
     }
@@ -97,7 +97,7 @@ impl MemoryLog {
     // Begins a call.
     #[tactic(auto, using(crate::proofs::CallLemmas::grows_nothing))]
     fn begin(&mut self, alloc: Global) -> Result<Fate, NoMemory>
-        ensures { Grows (lines_of self.old) (lines_of self.new) }
+        ensures { Grows (decided_lines self.old) (decided_lines self.new) }
     {
         let late = self.late.take();
         land(alloc, &mut self.lines, late)?;
@@ -106,7 +106,7 @@ impl MemoryLog {
 
     // Lets an append be decided when the next call comes.
     fn delay(&mut self, alloc: Global, n: u32, line: &[u8]) -> Result<(), NoMemory>
-        ensures { lines_of self.new ≡ lines_of self.old }
+        ensures { decided_lines self.new ≡ decided_lines self.old }
     {
         let line = Line::new(line.to_vec(alloc)?);
         self.late = Some(Late { n, line });
@@ -115,8 +115,8 @@ impl MemoryLog {
 
     // Decides an append.
     fn decide(&mut self, alloc: Global, n: u32, line: &[u8]) -> Result<AppendAnswer, NoMemory>
-        ensures ok { IfOk result (λ answer. AppendMeans n line.now answer (lines_of self.old) (lines_of self.new)) }
-        ensures err { OnErr result (lines_of self.new ≡ lines_of self.old) }
+        ensures ok { IfOk result (λ answer. AppendMeans n line.now answer (decided_lines self.old) (decided_lines self.new)) }
+        ensures err { OnErr result (decided_lines self.new ≡ decided_lines self.old) }
     {
         decide(alloc, &mut self.lines, n, line)
     }
@@ -130,8 +130,8 @@ impl MemoryLog {
         n: u32,
         line: &[u8],
     ) -> Result<AppendAnswer, LogFault>
-        ensures ok { IfOk result (λ answer. AppendMeans n line.now answer (lines_of self.old) (lines_of self.new)) }
-        ensures err { OnErr result (Grows (lines_of self.old) (lines_of self.new)) }
+        ensures ok { IfOk result (λ answer. AppendMeans n line.now answer (decided_lines self.old) (decided_lines self.new)) }
+        ensures err { OnErr result (Grows (decided_lines self.old) (decided_lines self.new)) }
     {
         match fate {
             Fate::Answers => Ok(self.decide(alloc, n, line)?),
@@ -158,15 +158,15 @@ fn is_answered(fate: Fate) -> bool {
 }
 
 impl Log for MemoryLog {
-    ghost use Rattle.shared_log.specs.Memory.{lines_of};
+    ghost use Rattle.shared_log.specs.Memory.{decided_lines};
 
-    ghost appends = { λ s t n line answer. AppendMeans n line answer (lines_of s) (lines_of t) };
+    ghost appends = { λ s t n line answer. AppendMeans n line answer (decided_lines s) (decided_lines t) };
 
-    ghost reads = { λ s t n page. AtSomeInstant (lines_of s) (lines_of t) (IsPage n page) };
+    ghost reads = { λ s t n page. AtSomeInstant (decided_lines s) (decided_lines t) (IsLogPage n page) };
 
-    ghost looks = { λ s t head. AtSomeInstant (lines_of s) (lines_of t) (IsHead head) };
+    ghost looks = { λ s t head. AtSomeInstant (decided_lines s) (decided_lines t) (IsLogHead head) };
 
-    ghost fails = { λ s t. Grows (lines_of s) (lines_of t) };
+    ghost fails = { λ s t. Grows (decided_lines s) (decided_lines t) };
 
     #[tactic(auto, using(crate::proofs::CallLemmas::grows_further, crate::proofs::CallLemmas::means_after))]
     fn append(&mut self, alloc: Global, n: u32, line: &[u8]) -> Result<AppendAnswer, LogFault> {

@@ -22,7 +22,7 @@ use Rattle.registry_store.specs.Promise.{Leaves, Represents}
 use Rattle.registry_store.specs.Queries.{IsUntouched}
 use Rattle.registry_store.specs.Witness.{WasSeen}
 use Rattle.registry_store.specs.declared.registry.Registry.{Registry}
-use Rattle.shared_log.specs.Calls.{LogLines, Grows, IsKept}
+use Rattle.shared_log.specs.Calls.{LogLines, Grows, KeepsLines}
 use Rattle.shared_log.specs.declared.fault.LogFault.{LogFault}
 use Rattle.shared_log.specs.declared.log.Log.{Ghosts as LogGhosts}
 use Rattle.shared_registry.specs.declared.cursor.AppendFault.TheVariants as faults
@@ -126,7 +126,7 @@ module _ {S : Type 0} {g : Ghosts S} {L : Type 0} (l : LogGhosts L) (lines : L �
 
   -- ---- a request
 
-  module _ (kept : IsKept l lines) (old : Registry S g) (c : Cursor L) (new : Registry S g) (c_new : Cursor L) (h : History) (r : Request) (follows : Follows l lines old c h) where
+  module _ (kept : KeepsLines l lines) (old : Registry S g) (c : Cursor L) (new : Registry S g) (c_new : Cursor L) (h : History) (r : Request) (follows : Follows l lines old c h) where
     over_shown : (deed : Deed) → verdict h r ≡ New deed → (shown : WasShown l c c_new r (act_text deed.act)) → GoesOver h (accepted_line (accepted_as r (act_text deed.act)) ∷ []) (with_deed h deed)
     over_shown deed is shown = over_one h r (accepted_line (accepted_as r (act_text deed.act))) (with_deed h deed) (continued h r deed _ is shown.valid refl)
 

@@ -2,7 +2,7 @@
 use Rattle.std.proofs.Common.{◌≡◌, ◌<◌, ◌∙◌, ◌+◌, ℕ, suc, Bool, true, false, List, [], ◌∷◌, ◌++◌, length, slice_get, Some, None, inl, inr, refl, sym, ap, subst, arith}
 use Rattle.std.proofs.lemmas.Option.{slice_get_within}
 use Rattle.registry_laws.proofs.MachineLemmas.{whole_beginning}
-use Rattle.shared_log.specs.Calls.{LogLines, AppendMeans, AtSomeInstant, Grows, IsKept}
+use Rattle.shared_log.specs.Calls.{LogLines, AppendMeans, AtSomeInstant, Grows, KeepsLines}
 use Rattle.shared_log.specs.declared.answers.AppendAnswer.TheVariants as answers
 use Rattle.shared_log.specs.declared.log.Log.{Ghosts as LogGhosts}
 use Rattle.shared_registry.specs.declared.cursor.AppendFault.{AppendFault}
@@ -57,7 +57,7 @@ module _ {L : Type 0} (l : LogGhosts L) (lines : L → LogLines) where
   append_grows n line (answers.Taken other) old new it = at_instant_grows old new (λ log. slice_get log n ≡ Some other) it
   append_grows n line answers.Behind old new it = at_instant_grows old new (λ log. length log < n) it
 
-  module _ (kept : IsKept l lines) (c c_new : Cursor L) where
+  module _ (kept : KeepsLines l lines) (c c_new : Cursor L) where
     pub line_grows : (line : List ℕ) → HasLine l c c_new line → Grows (lines c.log) (lines c_new.log)
     line_grows line it = elim it.told [
       | inl appended ↦ append_grows c.next line answers.Appended _ _ (kept.appends c.log c_new.log c.next line answers.Appended appended)

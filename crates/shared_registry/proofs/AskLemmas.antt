@@ -11,7 +11,7 @@ use Rattle.registry_rules.specs.declared.verdict.Verdict.TheVariants.{New}
 use Rattle.registry_laws.specs.Machines.{IsOfMachine, LeadsTo}
 use Rattle.registry_laws.specs.Records.{record_of}
 use Rattle.registry_wire.specs.Record.{accepted_line}
-use Rattle.shared_log.specs.Calls.{Grows, IsKept, IsPage, LogLines}
+use Rattle.shared_log.specs.Calls.{Grows, KeepsLines, IsLogPage, LogLines}
 use Rattle.shared_log.specs.declared.answers.AppendAnswer.TheVariants as answers
 use Rattle.shared_log.specs.declared.answers.PageAnswer.{PageAnswer}
 use Rattle.shared_log.specs.declared.log.Log.{Ghosts as LogGhosts}
@@ -114,9 +114,9 @@ module _ {L : Type 0} (l : LogGhosts L) (these : LogLines) (start c c_new : Curs
 
 -- ---- the line of a request
 
-module _ {L : Type 0} (l : LogGhosts L) (lines : L → LogLines) (kept : IsKept l lines) where
+module _ {L : Type 0} (l : LogGhosts L) (lines : L → LogLines) (kept : KeepsLines l lines) where
   call_grows : (May : ℕ → List ℕ → Type 0) (a b : L) → IsCall l May a b → Grows (lines a) (lines b)
-  call_grows May a b (inl read) = at_instant_grows (lines a) (lines b) (IsPage read.0 read.1) (kept.reads a b read.0 read.1 read.2)
+  call_grows May a b (inl read) = at_instant_grows (lines a) (lines b) (IsLogPage read.0 read.1) (kept.reads a b read.0 read.1 read.2)
   call_grows May a b (inr (inl it)) = append_grows l lines it.0 it.1 it.2 (lines a) (lines b) (kept.appends a b it.0 it.1 it.2 it.4)
   call_grows May a b (inr (inr fails)) = kept.fails a b fails
 

@@ -14,7 +14,7 @@ use Rattle.registry_laws.specs.Records.{record_of}
 use Rattle.registry_laws.proofs.MachineLemmas.{appended_twice}
 use Rattle.registry_store.specs.Promise.{Represents, state_of}
 use Rattle.registry_store.specs.declared.registry.Registry.{Registry}
-use Rattle.shared_log.specs.Calls.{LogLines, AtSomeInstant, Grows, IsKept, IsPage}
+use Rattle.shared_log.specs.Calls.{LogLines, AtSomeInstant, Grows, KeepsLines, IsLogPage}
 use Rattle.shared_log.specs.declared.answers.PageAnswer.{PageAnswer}
 use Rattle.shared_log.specs.declared.fault.LogFault.{LogFault}
 use Rattle.shared_log.specs.declared.fault.LogFault.TheVariants.{BadAnswer}
@@ -93,7 +93,7 @@ pub record IsRead (log new : LogLines) (h : History) (page : PageAnswer) : Type 
   pub there : AtSomeInstant log new (λ it. it ≡ record_of h ++ (page.lines ++ rest))
   pub last : page.more ≡ false → rest ≡ []
 
-pub is_read : (log new : LogLines) (h : History) (n : ℕ) (page : PageAnswer) → BeginsWith log h → n ≡ length (record_of h) → AtSomeInstant log new (IsPage n page) → IsRead log new h page
+pub is_read : (log new : LogLines) (h : History) (n : ℕ) (page : PageAnswer) → BeginsWith log h → n ≡ length (record_of h) → AtSomeInstant log new (IsLogPage n page) → IsRead log new h page
 is_read log new h n page begins at it =
     let front = record_of h in
     let more = begins.0 ++ it.before.0 in
@@ -208,7 +208,7 @@ module _ {S : Type 0} {g : Ghosts S} {L : Type 0} (l : LogGhosts L) (lines : L �
       record { represents = stays; of_machine = still_of (lines c.log) (lines c_new.log) h follows.of_machine grown; next = same ∙ follows.next }
 
   -- an answer without a line, which said that there were more
-  pub empty_page : IsKept l lines → (it : Registry S g) (c c_new : Cursor L) (h : History) → Follows l lines it c h → (page : PageAnswer) → l.reads c.log c_new.log c.next page → c_new.next ≡ c.next → page.lines ≡ [] → page.more ≡ true
+  pub empty_page : KeepsLines l lines → (it : Registry S g) (c c_new : Cursor L) (h : History) → Follows l lines it c h → (page : PageAnswer) → l.reads c.log c_new.log c.next page → c_new.next ≡ c.next → page.lines ≡ [] → page.more ≡ true
       → FollowsLater l lines it c_new h × HasFailed l lines c.log c_new.log BadAnswer
   empty_page kept it c c_new h follows page reads same none more = (
     (h, leads_nowhere h, still_follows it c it c_new h follows follows.represents (at_instant_grows (lines c.log) (lines c_new.log) _ (kept.reads c.log c_new.log c.next page reads)) same),

@@ -10,7 +10,7 @@ use Rattle.registry_wire.specs.declared.record.RecordLine.TheVariants as says
 use Rattle.registry_wire.specs.declared.refusal.WireRefusal.{WireRefusal}
 use Rattle.registry_laws.proofs.LineLemmas.{founding_read}
 use Rattle.registry_laws.proofs.MachineLemmas.{in_beginning}
-use Rattle.shared_log.specs.Calls.{LogLines, AtSomeInstant, IsPage}
+use Rattle.shared_log.specs.Calls.{LogLines, AtSomeInstant, IsLogPage}
 use Rattle.shared_log.specs.declared.answers.PageAnswer.{PageAnswer}
 use Rattle.shared_log.specs.declared.log.Log.{Ghosts as LogGhosts}
 use Rattle.shared_registry.specs.declared.stop.ShareStop.{ShareStop}
@@ -52,17 +52,17 @@ all_lines [] = refl
 all_lines (line ∷ others) = refl
 
 -- the first line of a page from line 0 on is that of the log
-first_line : (page : PageAnswer) (line : List ℕ) → slice_get page.lines 0 ≡ Some line → (log : LogLines) → IsPage 0 page log → slice_get log 0 ≡ Some line
+first_line : (page : PageAnswer) (line : List ℕ) → slice_get page.lines 0 ≡ Some line → (log : LogLines) → IsLogPage 0 page log → slice_get log 0 ≡ Some line
 first_line page line is log at =
     ap (λ (all : LogLines). slice_get all 0) (sym (all_lines log) ∙ at.1)
     ∙ in_beginning page.lines at.0 0 (slice_get_within page.lines 0 line is) ∙ is
 
-page_begins : (old new : LogLines) (page : PageAnswer) (line : List ℕ) → AtSomeInstant old new (IsPage 0 page) → slice_get page.lines 0 ≡ Some line → AtSomeInstant old new (λ log. slice_get log 0 ≡ Some line)
+page_begins : (old new : LogLines) (page : PageAnswer) (line : List ℕ) → AtSomeInstant old new (IsLogPage 0 page) → slice_get page.lines 0 ≡ Some line → AtSomeInstant old new (λ log. slice_get log 0 ≡ Some line)
 page_begins old new page line at is = record { instant = at.instant; before = at.before; after = at.after; held = first_line page line is at.instant at.held }
 
 module _ {L : Type 0} (l : LogGhosts L) (lines : L → LogLines) where
   -- why the page begins with no founding, of the log
-  page_unfounded : (old new : L) (page : PageAnswer) → l.reads old new 0 page → AtSomeInstant (lines old) (lines new) (IsPage 0 page)
+  page_unfounded : (old new : L) (page : PageAnswer) → l.reads old new 0 page → AtSomeInstant (lines old) (lines new) (IsLogPage 0 page)
       → (stop : ShareStop) → HasNoFoundingLine page.lines page.more stop → HasNoFounding l lines old new stop
   page_unfounded old new page reads at (stops.Log fault) it = record { old = old; grown = grows_none (lines old); failed = inr (0, page, reads, it.0, it.1, it.2) }
   page_unfounded old new page reads at (stops.OtherRecord n) it = (
@@ -81,7 +81,7 @@ module _ {L : Type 0} (l : LogGhosts L) (lines : L → LogLines) where
   page_unfounded old new page reads at stops.Ahead it = absurd it
   page_unfounded old new page reads at stops.Full it = absurd it
 
-  module _ (old new : L) (page : PageAnswer) (reads : l.reads old new 0 page) (at : AtSomeInstant (lines old) (lines new) (IsPage 0 page)) where
+  module _ (old new : L) (page : PageAnswer) (reads : l.reads old new 0 page) (at : AtSomeInstant (lines old) (lines new) (IsLogPage 0 page)) where
     pub read_founded : (result : Result Founding ShareStop) → IfOk result (λ founding. BeginsWith founding page.lines) → IfOk result (λ founding. AtSomeInstant (lines old) (lines new) (BeginsWith founding))
     read_founded (Ok founding) is = page_begins (lines old) (lines new) page (founding_line founding) at is
     read_founded (Err stop) is = tt

@@ -20,7 +20,7 @@ use Rattle.registry_store.specs.Promise.{Represents, state_of}
 use Rattle.registry_store.specs.Queries.{IsUntouched}
 use Rattle.registry_store.specs.declared.registry.Registry.{Registry}
 use Rattle.registry_store.proofs.TransactionLemmas.{quiet_then}
-use Rattle.shared_log.specs.Calls.{LogLines, AtSomeInstant, Grows, IsKept, IsPage}
+use Rattle.shared_log.specs.Calls.{LogLines, AtSomeInstant, Grows, KeepsLines, IsLogPage}
 use Rattle.shared_log.specs.declared.answers.AppendAnswer.TheVariants as answers
 use Rattle.shared_log.specs.declared.answers.PageAnswer.{PageAnswer}
 use Rattle.shared_log.specs.declared.log.Log.{Ghosts as LogGhosts}
@@ -160,7 +160,7 @@ module _ {L : Type 0} (l : LogGhosts L) (lines : L → LogLines) (h : History) w
     is : there.instant ≡ take c.next (record_of h) ++ (page.lines ++ rest)
     last : page.more ≡ false → rest ≡ []
 
-  was_read : (c : Cursor L) (now : L) (page : PageAnswer) → HasPassed lines c h → AtSomeInstant (lines c.log) (lines now) (IsPage c.next page) → WasRead c now page
+  was_read : (c : Cursor L) (now : L) (page : PageAnswer) → HasPassed lines c h → AtSomeInstant (lines c.log) (lines now) (IsLogPage c.next page) → WasRead c now page
   was_read c now page passed at =
       let front = take c.next (record_of h) in
       let more = grows_on front (lines c.log) at.instant passed.begins at.before in
@@ -173,7 +173,7 @@ module _ {L : Type 0} (l : LogGhosts L) (lines : L → LogLines) (h : History) w
       }
 
   -- the first lines of the part are those of the page, and so the log begins with the record up to them
-  page_begins : (c : Cursor L) (now : L) (part : LogLines) (page : PageAnswer) (count : ℕ) → HasPassed lines c h → IsNextPart (record_of h) c.next part → AtSomeInstant (lines c.log) (lines now) (IsPage c.next page)
+  page_begins : (c : Cursor L) (now : L) (part : LogLines) (page : PageAnswer) (count : ℕ) → HasPassed lines c h → IsNextPart (record_of h) c.next part → AtSomeInstant (lines c.log) (lines now) (IsLogPage c.next page)
       → count ≤ length part → take count part ≡ take count page.lines → Grows (take (c.next + count) (record_of h)) (lines now)
   page_begins c now part page count passed is at within same =
       let read = was_read c now page passed at in
@@ -186,7 +186,7 @@ module _ {L : Type 0} (l : LogGhosts L) (lines : L → LogLines) (h : History) w
       ∙ sym (appended_twice front (take count part) (drop count page.lines ++ read.rest)) in
       grows_on (take (c.next + count) (record_of h)) read.there.instant (lines now) (drop count page.lines ++ read.rest, there ∙ ap (λ (f : LogLines). f ++ (drop count page.lines ++ read.rest)) (sym ours)) read.there.after
 
-  pub page_passed : (c c_new : Cursor L) (part : LogLines) (page : PageAnswer) (count : ℕ) → HasPassed lines c h → IsNextPart (record_of h) c.next part → AtSomeInstant (lines c.log) (lines c_new.log) (IsPage c.next page)
+  pub page_passed : (c c_new : Cursor L) (part : LogLines) (page : PageAnswer) (count : ℕ) → HasPassed lines c h → IsNextPart (record_of h) c.next part → AtSomeInstant (lines c.log) (lines c_new.log) (IsLogPage c.next page)
       → Matches part page.lines count → c_new.next ≡ c.next + count → HasPassed lines c_new h
   page_passed c c_new part page count passed is at same next =
       let long = long_record c part is.rest passed is.next in
@@ -198,7 +198,7 @@ module _ {L : Type 0} (l : LogGhosts L) (lines : L → LogLines) (h : History) w
 
   -- ---- why a page is another
 
-  page_apart : (c : Cursor L) (now : L) (part : LogLines) (page : PageAnswer) (count : ℕ) → HasPassed lines c h → IsNextPart (record_of h) c.next part → AtSomeInstant (lines c.log) (lines now) (IsPage c.next page)
+  page_apart : (c : Cursor L) (now : L) (part : LogLines) (page : PageAnswer) (count : ℕ) → HasPassed lines c h → IsNextPart (record_of h) c.next part → AtSomeInstant (lines c.log) (lines now) (IsLogPage c.next page)
       → count < length part → count < length page.lines → take count part ≡ take count page.lines → slice_get part count ≢ slice_get page.lines count → IsApart (lines c.log) (lines now) h (c.next + count)
   page_apart c now part page count passed is at ours theirs before other =
       let read = was_read c now page passed at in
@@ -220,7 +220,7 @@ module _ {L : Type 0} (l : LogGhosts L) (lines : L → LogLines) (h : History) w
       }
 
   -- the log ends before the record does
-  page_short : (c : Cursor L) (now : L) (part : LogLines) (page : PageAnswer) → HasPassed lines c h → IsNextPart (record_of h) c.next part → part ≢ [] → AtSomeInstant (lines c.log) (lines now) (IsPage c.next page)
+  page_short : (c : Cursor L) (now : L) (part : LogLines) (page : PageAnswer) → HasPassed lines c h → IsNextPart (record_of h) c.next part → part ≢ [] → AtSomeInstant (lines c.log) (lines now) (IsLogPage c.next page)
       → page.lines ≡ [] → page.more ≡ false → AtSomeInstant (lines c.log) (lines now) (λ log. length log < length (record_of h))
   page_short c now [] page passed is some at none last = absurd (some refl)
   page_short c now (line ∷ part) page passed is some at none last =
@@ -231,7 +231,7 @@ module _ {L : Type 0} (l : LogGhosts L) (lines : L → LogLines) (h : History) w
       let long = long_record c (line ∷ part) is.rest passed is.next in
       record { instant = read.there.instant; before = read.there.before; after = read.there.after; held = omega (arith, count, long) }
 
-  pub page_other : (c : Cursor L) (now : L) (part : LogLines) (page : PageAnswer) → HasPassed lines c h → IsNextPart (record_of h) c.next part → part ≢ [] → AtSomeInstant (lines c.log) (lines now) (IsPage c.next page)
+  pub page_other : (c : Cursor L) (now : L) (part : LogLines) (page : PageAnswer) → HasPassed lines c h → IsNextPart (record_of h) c.next part → part ≢ [] → AtSomeInstant (lines c.log) (lines now) (IsLogPage c.next page)
       → l.reads c.log now c.next page → (stop : ShareStop) → IsOtherPage part page.lines page.more c.next stop → IsUnshared l lines h c.log now stop
   page_other c now part page passed is some at reads (stops.Registry fault) it = absurd it
   page_other c now part page passed is some at reads (stops.Log fault) it = record { old = c.log; grown = grows_none (lines c.log); failed = inr (c.next, page, reads, it.0, it.1, it.2) }
@@ -258,7 +258,7 @@ module _ {L : Type 0} (l : LogGhosts L) (lines : L → LogLines) (h : History) w
       at_dropped start.next (record_of h) i ∙ ap (λ (d : LogLines). slice_get d i) is ∙ in_beginning these rest i lt ∙ slice_get-get_or these i line lt ∙ ap Some (sym here)
 
   -- a line of the record that the log took is passed
-  pub line_passed : IsKept l lines → (start c c_new : Cursor L) (these rest : LogLines) (i : ℕ) (line : List ℕ) → drop start.next (record_of h) ≡ these ++ rest → c.next ≡ start.next + i → i < length these → line ≡ get_or these i line
+  pub line_passed : KeepsLines l lines → (start c c_new : Cursor L) (these rest : LogLines) (i : ℕ) (line : List ℕ) → drop start.next (record_of h) ≡ these ++ rest → c.next ≡ start.next + i → i < length these → line ≡ get_or these i line
       → HasPassed lines c h → HasLine l c c_new line → HasPassed lines c_new h
   line_passed kept start c c_new these rest i line is counted lt here passed has =
       let at : slice_get (record_of h) c.next ≡ Some line = ap (slice_get (record_of h)) counted ∙ line_of_record start these rest i line is lt here in
@@ -274,7 +274,7 @@ module _ {L : Type 0} (l : LogGhosts L) (lines : L → LogLines) (h : History) w
       }
 
   -- another line was under the number
-  pub taken_apart : IsKept l lines → (start c c_new : Cursor L) (these rest : LogLines) (i : ℕ) (line : List ℕ) → drop start.next (record_of h) ≡ these ++ rest → c.next ≡ start.next + i → i < length these → line ≡ get_or these i line
+  pub taken_apart : KeepsLines l lines → (start c c_new : Cursor L) (these rest : LogLines) (i : ℕ) (line : List ℕ) → drop start.next (record_of h) ≡ these ++ rest → c.next ≡ start.next + i → i < length these → line ≡ get_or these i line
       → HasPassed lines c h → Grows (lines start.log) (lines c.log) → HasNoLine l c c_new line faults.Taken → IsApart (lines start.log) (lines c_new.log) h c_new.next
   taken_apart kept start c c_new these rest i line is counted lt here passed grown it =
       let means = kept.appends c.log c_new.log c.next line (answers.Taken it.0.0) it.0.2 in

@@ -1,6 +1,6 @@
 -- A registry that follows a log of lines, which other machines may append to.
 --
--- `lines` is what the log keeps; that it keeps them is the premise `IsKept` of each clause.
+-- `lines` is what the log keeps; that it keeps them is the premise `KeepsLines` of each clause.
 use Rattle.std.specs.Prelude.{◌≡◌, ◌≢◌, ◌⊎◌, ◌<◌, ℕ, true, false, List, [], length, slice_get, Option, Some, None, Bool}
 use Rattle.sqlite.specs.Store.{Ghosts}
 use Rattle.sqlite.specs.State.{State}

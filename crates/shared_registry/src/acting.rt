@@ -4,7 +4,7 @@ ghost use Rattle.std.specs.Prelude.{◌≡◌, ◌<◌, ◌^◌, true, None, Err
 ghost use Rattle.sqlite.specs.State.{HasCleanDisk};
 ghost use Rattle.registry_rules.specs.History.{History};
 ghost use Rattle.registry_store.specs.Promise.{Endures, NotesForeign, is_poisoned, state_of};
-ghost use Rattle.shared_log.specs.Calls.{IsKept, LogLines};
+ghost use Rattle.shared_log.specs.Calls.{KeepsLines, LogLines};
 ghost use Rattle.shared_registry.specs.Asks.{AppendsRequest, IsAsked};
 ghost use Rattle.shared_registry.specs.Lines.{fault_in};
 ghost use Rattle.shared_registry.specs.Follows.{Follows, HasTried, HasTurned, IsAnswered, IsLeft};
@@ -24,11 +24,11 @@ fn try_to_act<S: Alter, L: Log>(
     cursor: &mut Cursor<L>,
     request: &Request,
 ) -> Result<Option<Reply>, ShareStop>
-    ensures ok { (lines : L → LogLines) → IsKept L.Log lines → (h : History) → Follows L.Log lines registry.old cursor.old h → HasCleanDisk (state_of registry.new)
+    ensures ok { (lines : L → LogLines) → KeepsLines L.Log lines → (h : History) → Follows L.Log lines registry.old cursor.old h → HasCleanDisk (state_of registry.new)
         → IfOk result (HasTried L.Log lines cursor.old registry.new cursor.new h request.now) }
-    ensures err { (lines : L → LogLines) → IsKept L.Log lines → (h : History) → Follows L.Log lines registry.old cursor.old h → HasCleanDisk (state_of registry.new)
+    ensures err { (lines : L → LogLines) → KeepsLines L.Log lines → (h : History) → Follows L.Log lines registry.old cursor.old h → HasCleanDisk (state_of registry.new)
         → IfErr result (IsLeft L.Log lines cursor.old registry.new cursor.new h) }
-    ensures asks { (lines : L → LogLines) → IsKept L.Log lines → (h : History) → Follows L.Log lines registry.old cursor.old h → HasCleanDisk (state_of registry.new)
+    ensures asks { (lines : L → LogLines) → KeepsLines L.Log lines → (h : History) → Follows L.Log lines registry.old cursor.old h → HasCleanDisk (state_of registry.new)
         → IsAsked L.Log (AppendsRequest (lines cursor.new.log) h request.now) cursor.old.log cursor.new.log }
     ensures notes { NotesForeign registry.old registry.new (fault_in result) }
     ensures endures { Endures (state_of registry.old) (state_of registry.new) }
@@ -53,11 +53,11 @@ fn act_and_look<S: Alter, L: Log>(
     cursor: &mut Cursor<L>,
     request: &Request,
 ) -> Result<Option<Reply>, ShareStop>
-    ensures ok { (lines : L → LogLines) → IsKept L.Log lines → (h : History) → Follows L.Log lines registry.old cursor.old h → HasCleanDisk (state_of registry.new)
+    ensures ok { (lines : L → LogLines) → KeepsLines L.Log lines → (h : History) → Follows L.Log lines registry.old cursor.old h → HasCleanDisk (state_of registry.new)
         → IfOk result (HasTurned L.Log lines cursor.old registry.new cursor.new h request.now) }
-    ensures err { (lines : L → LogLines) → IsKept L.Log lines → (h : History) → Follows L.Log lines registry.old cursor.old h → HasCleanDisk (state_of registry.new)
+    ensures err { (lines : L → LogLines) → KeepsLines L.Log lines → (h : History) → Follows L.Log lines registry.old cursor.old h → HasCleanDisk (state_of registry.new)
         → IfErr result (IsLeft L.Log lines cursor.old registry.new cursor.new h) }
-    ensures asks { (lines : L → LogLines) → IsKept L.Log lines → (h : History) → Follows L.Log lines registry.old cursor.old h → HasCleanDisk (state_of registry.new)
+    ensures asks { (lines : L → LogLines) → KeepsLines L.Log lines → (h : History) → Follows L.Log lines registry.old cursor.old h → HasCleanDisk (state_of registry.new)
         → IsAsked L.Log (AppendsRequest (lines cursor.new.log) h request.now) cursor.old.log cursor.new.log }
     ensures notes { NotesForeign registry.old registry.new (fault_in result) }
     ensures endures { Endures (state_of registry.old) (state_of registry.new) }
@@ -98,12 +98,12 @@ pub fn act<S: Alter, L: Log>(
     request: &Request,
 ) -> Result<Reply, ShareStop>
     ensures when_poisoned { is_poisoned registry.old ≡ true → (result ≡ Err (ShareStop.Registry Fault.Poisoned)) × (registry.new ≡ registry.old) × (cursor.new ≡ cursor.old) }
-    ensures ok { (lines : L → LogLines) → IsKept L.Log lines → (h : History) → Follows L.Log lines registry.old cursor.old h → HasCleanDisk (state_of registry.new)
+    ensures ok { (lines : L → LogLines) → KeepsLines L.Log lines → (h : History) → Follows L.Log lines registry.old cursor.old h → HasCleanDisk (state_of registry.new)
         → IfOk result (IsAnswered L.Log lines cursor.old registry.new cursor.new h request.now) }
-    ensures err { (lines : L → LogLines) → IsKept L.Log lines → (h : History) → Follows L.Log lines registry.old cursor.old h → HasCleanDisk (state_of registry.new)
+    ensures err { (lines : L → LogLines) → KeepsLines L.Log lines → (h : History) → Follows L.Log lines registry.old cursor.old h → HasCleanDisk (state_of registry.new)
         → IfErr result (IsLeft L.Log lines cursor.old registry.new cursor.new h) }
     // No other line is appended than that of the request, with the reply that it gets.
-    ensures asks { (lines : L → LogLines) → IsKept L.Log lines → (h : History) → Follows L.Log lines registry.old cursor.old h → HasCleanDisk (state_of registry.new)
+    ensures asks { (lines : L → LogLines) → KeepsLines L.Log lines → (h : History) → Follows L.Log lines registry.old cursor.old h → HasCleanDisk (state_of registry.new)
         → IsAsked L.Log (AppendsRequest (lines cursor.new.log) h request.now) cursor.old.log cursor.new.log }
     ensures notes { NotesForeign registry.old registry.new (fault_in result) }
     ensures endures { Endures (state_of registry.old) (state_of registry.new) }

@@ -4,7 +4,7 @@ ghost use Rattle.std.specs.Prelude.{◌≡◌, ◌≤◌, ◌<◌, ◌+◌, ◌^
 ghost use Rattle.sqlite.specs.State.{HasCleanDisk};
 ghost use Rattle.registry_rules.specs.History.{History};
 ghost use Rattle.registry_store.specs.Promise.{Endures, NotesForeign, Represents, is_poisoned, state_of};
-ghost use Rattle.shared_log.specs.Calls.{IsKept, LogLines};
+ghost use Rattle.shared_log.specs.Calls.{KeepsLines, LogLines};
 ghost use Rattle.shared_registry.specs.Asks.{AppendsNothing, IsAsked};
 ghost use Rattle.shared_registry.specs.Lines.{IsStoppedIn, LeadsToLines, fault_in};
 ghost use Rattle.shared_registry.specs.Follows.{Follows, HasFollowed, HasFollowedPage, IsLeft};
@@ -52,9 +52,9 @@ fn read_and_follow<S: Alter, L: Log>(
     registry: &mut Registry<S>,
     cursor: &mut Cursor<L>,
 ) -> Result<bool, ShareStop>
-    ensures ok { (lines : L → LogLines) → IsKept L.Log lines → (h : History) → Follows L.Log lines registry.old cursor.old h → HasCleanDisk (state_of registry.new)
+    ensures ok { (lines : L → LogLines) → KeepsLines L.Log lines → (h : History) → Follows L.Log lines registry.old cursor.old h → HasCleanDisk (state_of registry.new)
         → IfOk result (HasFollowedPage L.Log lines cursor.old registry.new cursor.new h) }
-    ensures err { (lines : L → LogLines) → IsKept L.Log lines → (h : History) → Follows L.Log lines registry.old cursor.old h → HasCleanDisk (state_of registry.new)
+    ensures err { (lines : L → LogLines) → KeepsLines L.Log lines → (h : History) → Follows L.Log lines registry.old cursor.old h → HasCleanDisk (state_of registry.new)
         → IfErr result (IsLeft L.Log lines cursor.old registry.new cursor.new h) }
     ensures notes { NotesForeign registry.old registry.new (fault_in result) }
     ensures endures { Endures (state_of registry.old) (state_of registry.new) }
@@ -95,9 +95,9 @@ pub fn follow<S: Alter, L: Log>(
     cursor: &mut Cursor<L>,
 ) -> Result<(), ShareStop>
     ensures when_poisoned { is_poisoned registry.old ≡ true → (result ≡ Err (ShareStop.Registry Fault.Poisoned)) × (registry.new ≡ registry.old) × (cursor.new ≡ cursor.old) }
-    ensures ok { (lines : L → LogLines) → IsKept L.Log lines → (h : History) → Follows L.Log lines registry.old cursor.old h → HasCleanDisk (state_of registry.new)
+    ensures ok { (lines : L → LogLines) → KeepsLines L.Log lines → (h : History) → Follows L.Log lines registry.old cursor.old h → HasCleanDisk (state_of registry.new)
         → OnOk result (HasFollowed L.Log lines cursor.old registry.new cursor.new h) }
-    ensures err { (lines : L → LogLines) → IsKept L.Log lines → (h : History) → Follows L.Log lines registry.old cursor.old h → HasCleanDisk (state_of registry.new)
+    ensures err { (lines : L → LogLines) → KeepsLines L.Log lines → (h : History) → Follows L.Log lines registry.old cursor.old h → HasCleanDisk (state_of registry.new)
         → IfErr result (IsLeft L.Log lines cursor.old registry.new cursor.new h) }
     ensures asks { IsAsked L.Log AppendsNothing cursor.old.log cursor.new.log }
     ensures notes { NotesForeign registry.old registry.new (fault_in result) }

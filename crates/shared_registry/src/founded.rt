@@ -2,7 +2,7 @@
 
 ghost use Rattle.std.specs.Prelude.{◌≡◌, ◌≢◌, IfErr, IfNone, IfOk, IfSome};
 ghost use Rattle.registry_wire.specs.Record.{founding_line};
-ghost use Rattle.shared_log.specs.Calls.{AtSomeInstant, IsKept, LogLines};
+ghost use Rattle.shared_log.specs.Calls.{AtSomeInstant, KeepsLines, LogLines};
 ghost use Rattle.shared_registry.specs.Asks.{AppendsNothing, IsAsked};
 ghost use Rattle.shared_registry.specs.Founded.{BeginsWith, HasNoFounding, HasNoFoundingLine, IsOfNoFounding};
 
@@ -67,8 +67,8 @@ fn founding_in_page(alloc: Global, page: &[Line], more: bool) -> Result<Founding
 /// `Empty` if the log has no line, and `OtherRecord` with the number 0 if the first is the line of no
 /// founding. `Log` if the call of the log got no answer. `NoMemory` if out of memory.
 pub fn read_founding<L: Log>(alloc: Global, log: &mut L) -> Result<Founding, ShareStop>
-    ensures ok { (lines : L → LogLines) → IsKept L.Log lines → IfOk result (λ founding. AtSomeInstant (lines log.old) (lines log.new) (BeginsWith founding)) }
-    ensures err { (lines : L → LogLines) → IsKept L.Log lines → IfErr result (HasNoFounding L.Log lines log.old log.new) }
+    ensures ok { (lines : L → LogLines) → KeepsLines L.Log lines → IfOk result (λ founding. AtSomeInstant (lines log.old) (lines log.new) (BeginsWith founding)) }
+    ensures err { (lines : L → LogLines) → KeepsLines L.Log lines → IfErr result (HasNoFounding L.Log lines log.old log.new) }
     ensures asks { IsAsked L.Log AppendsNothing log.old log.new }
 {
     let page = match log.page(alloc, 0) {

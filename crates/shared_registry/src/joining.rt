@@ -7,7 +7,7 @@ ghost use Rattle.registry_laws.specs.Machines.{HasValidFields};
 ghost use Rattle.registry_laws.specs.Records.{record_of};
 ghost use Rattle.registry_store.specs.Promise.{NotesForeign, Represents, is_poisoned, state_of};
 ghost use Rattle.registry_store.specs.Queries.{IsUntouched};
-ghost use Rattle.shared_log.specs.Calls.{Grows, IsKept, LogLines};
+ghost use Rattle.shared_log.specs.Calls.{Grows, KeepsLines, LogLines};
 ghost use Rattle.shared_registry.specs.Asks.{AppendsLines, AppendsNothing, AppendsRecord, IsAsked, IsAskedFor};
 ghost use Rattle.shared_registry.specs.Lines.{fault_in, fault_of};
 ghost use Rattle.shared_registry.specs.Cursors.{most_lines};
@@ -99,9 +99,9 @@ fn compare_part<S: Alter, L: Log>(
     registry: &mut Registry<S>,
     cursor: &mut Cursor<L>,
 ) -> Result<bool, ShareStop>
-    ensures ok { (lines : L → LogLines) → IsKept L.Log lines → (h : History) → Represents registry.old h → HasValidFields h → HasPassed lines cursor.old h → HasCleanDisk (state_of registry.new)
+    ensures ok { (lines : L → LogLines) → KeepsLines L.Log lines → (h : History) → Represents registry.old h → HasValidFields h → HasPassed lines cursor.old h → HasCleanDisk (state_of registry.new)
         → IfOk result (λ more. HasPassed lines cursor.new h × Grows (lines cursor.old.log) (lines cursor.new.log) × (more ≡ false → cursor.new.next ≡ length (record_of h))) }
-    ensures err { (lines : L → LogLines) → IsKept L.Log lines → (h : History) → Represents registry.old h → HasValidFields h → HasPassed lines cursor.old h → HasCleanDisk (state_of registry.new)
+    ensures err { (lines : L → LogLines) → KeepsLines L.Log lines → (h : History) → Represents registry.old h → HasValidFields h → HasPassed lines cursor.old h → HasCleanDisk (state_of registry.new)
         → IfErr result (IsUnshared L.Log lines h cursor.old.log cursor.new.log) }
     ensures untouched { IsUntouched registry.old registry.new }
     ensures asks { IsAsked L.Log AppendsNothing cursor.old.log cursor.new.log }
@@ -135,9 +135,9 @@ fn compare<S: Alter, L: Log>(
     registry: &mut Registry<S>,
     cursor: &mut Cursor<L>,
 ) -> Result<(), ShareStop>
-    ensures ok { (lines : L → LogLines) → IsKept L.Log lines → (h : History) → Represents registry.old h → HasValidFields h → HasPassed lines cursor.old h → HasCleanDisk (state_of registry.new)
+    ensures ok { (lines : L → LogLines) → KeepsLines L.Log lines → (h : History) → Represents registry.old h → HasValidFields h → HasPassed lines cursor.old h → HasCleanDisk (state_of registry.new)
         → OnOk result (HasPassed lines cursor.new h × (cursor.new.next ≡ length (record_of h))) }
-    ensures err { (lines : L → LogLines) → IsKept L.Log lines → (h : History) → Represents registry.old h → HasValidFields h → HasPassed lines cursor.old h → HasCleanDisk (state_of registry.new)
+    ensures err { (lines : L → LogLines) → KeepsLines L.Log lines → (h : History) → Represents registry.old h → HasValidFields h → HasPassed lines cursor.old h → HasCleanDisk (state_of registry.new)
         → IfErr result (IsUnshared L.Log lines h cursor.old.log cursor.new.log) }
     ensures untouched { IsUntouched registry.old registry.new }
     ensures asks { IsAsked L.Log AppendsNothing cursor.old.log cursor.new.log }
@@ -155,9 +155,9 @@ fn compare<S: Alter, L: Log>(
 
 /// Appends these lines, and passes them.
 fn append_lines<L: Log>(cursor: &mut Cursor<L>, lines: &[Line]) -> Result<(), ShareStop>
-    ensures ok { (log : L → LogLines) → IsKept L.Log log → (h : History) → (rest : LogLines) → drop cursor.old.next (record_of h) ≡ lines.now ++ rest → HasPassed log cursor.old h
+    ensures ok { (log : L → LogLines) → KeepsLines L.Log log → (h : History) → (rest : LogLines) → drop cursor.old.next (record_of h) ≡ lines.now ++ rest → HasPassed log cursor.old h
         → OnOk result (HasPassed log cursor.new h × Grows (log cursor.old.log) (log cursor.new.log)) }
-    ensures err { (log : L → LogLines) → IsKept L.Log log → (h : History) → (rest : LogLines) → drop cursor.old.next (record_of h) ≡ lines.now ++ rest → HasPassed log cursor.old h
+    ensures err { (log : L → LogLines) → KeepsLines L.Log log → (h : History) → (rest : LogLines) → drop cursor.old.next (record_of h) ≡ lines.now ++ rest → HasPassed log cursor.old h
         → IfErr result (IsUnshared L.Log log h cursor.old.log cursor.new.log) }
     ensures kind { IfErr result (λ stop. fault_of stop ≡ None) }
     ensures asks { IsAsked L.Log (AppendsLines lines.now cursor.old.next) cursor.old.log cursor.new.log }
@@ -185,9 +185,9 @@ fn append_part<S: Alter, L: Log>(
     registry: &mut Registry<S>,
     cursor: &mut Cursor<L>,
 ) -> Result<bool, ShareStop>
-    ensures ok { (lines : L → LogLines) → IsKept L.Log lines → (h : History) → Represents registry.old h → HasValidFields h → HasPassed lines cursor.old h → HasCleanDisk (state_of registry.new)
+    ensures ok { (lines : L → LogLines) → KeepsLines L.Log lines → (h : History) → Represents registry.old h → HasValidFields h → HasPassed lines cursor.old h → HasCleanDisk (state_of registry.new)
         → IfOk result (λ more. HasPassed lines cursor.new h × Grows (lines cursor.old.log) (lines cursor.new.log) × (more ≡ false → cursor.new.next ≡ length (record_of h))) }
-    ensures err { (lines : L → LogLines) → IsKept L.Log lines → (h : History) → Represents registry.old h → HasValidFields h → HasPassed lines cursor.old h → HasCleanDisk (state_of registry.new)
+    ensures err { (lines : L → LogLines) → KeepsLines L.Log lines → (h : History) → Represents registry.old h → HasValidFields h → HasPassed lines cursor.old h → HasCleanDisk (state_of registry.new)
         → IfErr result (IsUnshared L.Log lines h cursor.old.log cursor.new.log) }
     ensures untouched { IsUntouched registry.old registry.new }
     ensures asks { (h : History) → Represents registry.old h → HasValidFields h → HasCleanDisk (state_of registry.new) → IsAsked L.Log (AppendsRecord h) cursor.old.log cursor.new.log }
@@ -215,9 +215,9 @@ fn append_record<S: Alter, L: Log>(
     registry: &mut Registry<S>,
     cursor: &mut Cursor<L>,
 ) -> Result<(), ShareStop>
-    ensures ok { (lines : L → LogLines) → IsKept L.Log lines → (h : History) → Represents registry.old h → HasValidFields h → HasPassed lines cursor.old h → HasCleanDisk (state_of registry.new)
+    ensures ok { (lines : L → LogLines) → KeepsLines L.Log lines → (h : History) → Represents registry.old h → HasValidFields h → HasPassed lines cursor.old h → HasCleanDisk (state_of registry.new)
         → OnOk result (HasPassed lines cursor.new h × (cursor.new.next ≡ length (record_of h))) }
-    ensures err { (lines : L → LogLines) → IsKept L.Log lines → (h : History) → Represents registry.old h → HasValidFields h → HasPassed lines cursor.old h → HasCleanDisk (state_of registry.new)
+    ensures err { (lines : L → LogLines) → KeepsLines L.Log lines → (h : History) → Represents registry.old h → HasValidFields h → HasPassed lines cursor.old h → HasCleanDisk (state_of registry.new)
         → IfErr result (IsUnshared L.Log lines h cursor.old.log cursor.new.log) }
     ensures untouched { IsUntouched registry.old registry.new }
     ensures asks { (h : History) → Represents registry.old h → HasValidFields h → HasCleanDisk (state_of registry.new) → IsAsked L.Log (AppendsRecord h) cursor.old.log cursor.new.log }
@@ -247,9 +247,9 @@ pub fn join<S: Alter, L: Log>(
     registry: &mut Registry<S>,
     log: L,
 ) -> Result<Cursor<L>, (ShareStop, L)>
-    ensures ok { (lines : L → LogLines) → IsKept L.Log lines → (h : History) → Represents registry.old h → HasValidFields h → HasCleanDisk (state_of registry.new)
+    ensures ok { (lines : L → LogLines) → KeepsLines L.Log lines → (h : History) → Represents registry.old h → HasValidFields h → HasCleanDisk (state_of registry.new)
         → IfOk result (λ cursor. Follows L.Log lines registry.new cursor h) }
-    ensures err { (lines : L → LogLines) → IsKept L.Log lines → (h : History) → Represents registry.old h → HasValidFields h → HasCleanDisk (state_of registry.new)
+    ensures err { (lines : L → LogLines) → KeepsLines L.Log lines → (h : History) → Represents registry.old h → HasValidFields h → HasCleanDisk (state_of registry.new)
         → IfErr result (λ e. IsUnshared L.Log lines h log e.1 e.0) }
     ensures untouched { IsUntouched registry.old registry.new }
     ensures asks { IsAskedFor L.Log AppendsNothing log result }
@@ -279,9 +279,9 @@ pub fn share<S: Alter, L: Log>(
     registry: &mut Registry<S>,
     log: L,
 ) -> Result<Cursor<L>, (ShareStop, L)>
-    ensures ok { (lines : L → LogLines) → IsKept L.Log lines → (h : History) → Represents registry.old h → HasValidFields h → HasCleanDisk (state_of registry.new)
+    ensures ok { (lines : L → LogLines) → KeepsLines L.Log lines → (h : History) → Represents registry.old h → HasValidFields h → HasCleanDisk (state_of registry.new)
         → IfOk result (λ cursor. Follows L.Log lines registry.new cursor h) }
-    ensures err { (lines : L → LogLines) → IsKept L.Log lines → (h : History) → Represents registry.old h → HasValidFields h → HasCleanDisk (state_of registry.new)
+    ensures err { (lines : L → LogLines) → KeepsLines L.Log lines → (h : History) → Represents registry.old h → HasValidFields h → HasCleanDisk (state_of registry.new)
         → IfErr result (λ e. IsUnshared L.Log lines h log e.1 e.0) }
     ensures untouched { IsUntouched registry.old registry.new }
     // No other line is appended than those of the record, each under its number.

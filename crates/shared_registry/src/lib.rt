@@ -50,7 +50,7 @@
 //!
 //! # Premises
 //!
-//! Each clause has the premise that the log keeps its lines (`IsKept` of `shared_log`) and, of a
+//! Each clause has the premise that the log keeps its lines (`KeepsLines` of `shared_log`) and, of a
 //! record that is taken up, that its fields are valid (`HasValidFields`). From then on they are:
 //! [`has_valid_fields`] says so of each request, by its types. A call may always run out of memory
 //! (`NoMemory`); no contract says when.

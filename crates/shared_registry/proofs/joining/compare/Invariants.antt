@@ -4,14 +4,14 @@ use Rattle.registry_rules.specs.History.{History}
 use Rattle.registry_laws.specs.Machines.{HasValidFields}
 use Rattle.registry_store.specs.Promise.{NotesForeign, Represents, state_of}
 use Rattle.registry_store.specs.Queries.{IsUntouched}
-use Rattle.shared_log.specs.Calls.{Grows, IsKept, LogLines}
+use Rattle.shared_log.specs.Calls.{Grows, KeepsLines, LogLines}
 use Rattle.shared_registry.specs.Asks.{AppendsNothing, IsAsked}
 use Rattle.shared_registry.specs.Records.{HasPassed}
 use Rattle.shared_registry.proofs.joining.compare.Given as goal
 
 abbrev pub invariant-loop-stop : goal.invariant-loop-stop
 invariant-loop-stop g l = record {
-  so_far : (lines : g.row.L.Denot → LogLines) → IsKept g.L.Log lines → (h : History) → Represents l.initial.registry h → HasValidFields h → HasPassed lines l.initial.cursor h → HasCleanDisk (state_of l.registry)
+  so_far : (lines : g.row.L.Denot → LogLines) → KeepsLines g.L.Log lines → (h : History) → Represents l.initial.registry h → HasValidFields h → HasPassed lines l.initial.cursor h → HasCleanDisk (state_of l.registry)
       → HasPassed lines l.cursor h × Grows (lines l.initial.cursor.log) (lines l.cursor.log);
   untouched : IsUntouched l.initial.registry l.registry;
   asks : IsAsked g.L.Log AppendsNothing l.initial.cursor.log l.cursor.log;
