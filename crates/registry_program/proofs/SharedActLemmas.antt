@@ -23,8 +23,8 @@ use Rattle.registry_commands.specs.declared.status.ExitStatus.TheVariants.{Succe
 use Rattle.registry_commands.specs.Ends.{Ends, Output}
 use Rattle.shared_log.specs.Calls.{KeepsLines, LogLines}
 use Rattle.shared_log.specs.declared.log.Log as log
-use Rattle.shared_registry.specs.Follows.{Follows, IsAnswered}
-use Rattle.shared_registry.specs.Lines.{fault_in, fault_of}
+use Rattle.shared_registry.specs.Follows.{Follows, IsAnsweredOverLog}
+use Rattle.shared_registry.specs.Lines.{fault_in_call, fault_of_stop}
 use Rattle.shared_registry.specs.declared.cursor.Cursor.{Cursor}
 use Rattle.shared_registry.specs.declared.stop.ShareStop.{ShareStop}
 use Rattle.shared_registry.proofs.LineLemmas.{leads_nowhere, leads_on}
@@ -67,17 +67,17 @@ module _ {S L : Type 0} {g : Ghosts S} (l : log.Ghosts L) (it : Did S g L) where
     abbrev Over : Option Fault → History → Type 0
     Over = LeavesOver l lines it.new it.to clean
 
-    same_over : it.new ≡ it.old → it.to ≡ it.from → Over (fault_in it.end) h
-    same_over same place = following_over l lines it.new it.to clean h (fault_in it.end)
+    same_over : it.new ≡ it.old → it.to ≡ it.from → Over (fault_in_call it.end) h
+    same_over same place = following_over l lines it.new it.to clean h (fault_in_call it.end)
         (h, leads_nowhere h, subst (λ (x : Registry S g). Follows l lines x it.to h) (sym same) (subst (λ (x : Cursor L). Follows l lines it.old x h) (sym place) follows))
 
-    answered_over : (c : Cursor L) (x : History) (r : Request) (reply : Reply) → IsAnswered l lines c it.new it.to x r reply → Over None x
+    answered_over : (c : Cursor L) (x : History) (r : Request) (reply : Reply) → IsAnsweredOverLog l lines c it.new it.to x r reply → Over None x
     answered_over c x r reply answered = following_over l lines it.new it.to clean x None
         (after_one answered.before r, leads_on x answered.before (after_one answered.before r) answered.leads (r ∷ [], refl), answered.follows)
 
     -- the fault of the registry that stopped a request, if one did
     abbrev fault_at : AnswerStop → Option Fault
-    fault_at (stops.Share stop) = fault_of stop
+    fault_at (stops.Share stop) = fault_of_stop stop
     fault_at (stops.Output failure) = None
 
     cut_over : (c : Cursor L) (x : History) (r : Request) (text text_new : Option (List ℕ)) (stop : AnswerStop) → IsCut l lines it.new it.to c x r text text_new stop → Over (fault_at stop) x
@@ -89,7 +89,7 @@ module _ {S L : Type 0} {g : Ghosts S} (l : log.Ghosts L) (it : Did S g L) where
         over_earlier l lines it.new it.to clean h some.last (fault_at stop) (answered_leads l lines it.from h some.done some.replies some.place some.last some.answered)
         (cut_over some.place some.last some.next some.middle it.out.new.contents stop some.stopped)
 
-    run_over : (rs : List Request) (end : Result ExitStatus ShareStop) → EndsRun l it rs end → Over (fault_in end) h
+    run_over : (rs : List Request) (end : Result ExitStatus ShareStop) → EndsRun l it rs end → Over (fault_in_call end) h
     run_over rs (Ok Success) run =
         let all = run.2 lines kept h follows clean in
         following_over l lines it.new it.to clean h None (all.next, answered_leads l lines it.from h rs all.replies it.to all.next all.answered, all.follows)
@@ -97,16 +97,16 @@ module _ {S L : Type 0} {g : Ghosts S} (l : log.Ghosts L) (it : Did S g L) where
     run_over rs (Ok Rejected) run = absurd run
     run_over rs (Err stop) run = some_over rs (stops.Share stop) (run.2 lines kept h follows clean)
 
-    apply_over : (OfInput : Failure → Type 0) (read : Result (List Request) BadLine) (a : ℕ) → DidApply l it OfInput read a → Over (fault_in it.end) h
+    apply_over : (OfInput : Failure → Type 0) (read : Result (List Request) BadLine) (a : ℕ) → DidApply l it OfInput read a → Over (fault_in_call it.end) h
     apply_over OfInput read a (inl nothing) = same_over nothing.same nothing.same_place
     apply_over OfInput read a (inr run) = run_over _ it.end run.3.ends
 
-    one_over : (r : Request) (end : Result ExitStatus ShareStop) → EndsOne l it r end → Over (fault_in end) h
+    one_over : (r : Request) (end : Result ExitStatus ShareStop) → EndsOne l it r end → Over (fault_in_call end) h
     one_over r (Ok status) (inl replied) = let it = replied.2 lines kept h follows clean in answered_over _ h r it.reply it.answered
     one_over r (Ok status) (inr cut) = cut_over it.from h r it.out.old.contents it.out.new.contents (stops.Output cut.1) (cut.4 lines kept h follows clean)
     one_over r (Err stop) one = cut_over it.from h r it.out.old.contents it.out.new.contents (stops.Share stop) (one.2 lines kept h follows clean)
 
-    import_over : (OfInput : Failure → Type 0) (import : Import) (bytes : List ℕ) → DidImport l it OfInput import bytes → Over (fault_in it.end) h
+    import_over : (OfInput : Failure → Type 0) (import : Import) (bytes : List ℕ) → DidImport l it OfInput import bytes → Over (fault_in_call it.end) h
     import_over OfInput import bytes (inl nothing) = same_over nothing.same nothing.same_place
     import_over OfInput import bytes (inr one) = one_over one.1 it.end one.5.ends
 
@@ -116,7 +116,7 @@ module _ {S L : Type 0} {g : Ghosts S} (l : log.Ghosts L) (it : Did S g L) where
     lines_clean file a (inr named) clean = elim named.2 [ inl read ↦ apply_clean _ _ a read.3.2 clean | inr not ↦ unopened_clean not.0 not.2 clean ]
 
     lines_over : (file : List ℕ) (a : ℕ) → AnswersNamed l it m s r file a input input_new old new → (lines : L → LogLines) → KeepsLines l lines → (h : History) → Follows l lines it.old it.from h → (clean : HasCleanDisk (state_of it.new))
-        → LeavesOver l lines it.new it.to clean (fault_in it.end) h
+        → LeavesOver l lines it.new it.to clean (fault_in_call it.end) h
     lines_over file a (inl standard) lines kept h follows clean = apply_over lines kept h follows clean _ _ a standard.2.2
     lines_over file a (inr named) lines kept h follows clean = elim named.2 [
       | inl read ↦ apply_over lines kept h follows clean _ _ a read.3.2
@@ -128,7 +128,7 @@ module _ {S L : Type 0} {g : Ghosts S} (l : log.Ghosts L) (it : Did S g L) where
     list_clean list import (inr named) clean = elim named.2 [ inl read ↦ import_clean _ import read.3.0 read.3.2 clean | inr not ↦ unopened_clean not.0 not.2 clean ]
 
     list_over : (list : List ℕ) (import : Import) → AnswersListOf l it m s r list import input input_new old new → (lines : L → LogLines) → KeepsLines l lines → (h : History) → Follows l lines it.old it.from h → (clean : HasCleanDisk (state_of it.new))
-        → LeavesOver l lines it.new it.to clean (fault_in it.end) h
+        → LeavesOver l lines it.new it.to clean (fault_in_call it.end) h
     list_over list import (inl standard) lines kept h follows clean = import_over lines kept h follows clean _ import standard.2.0 standard.2.2
     list_over list import (inr named) lines kept h follows clean = elim named.2 [
       | inl read ↦ import_over lines kept h follows clean _ import read.3.0 read.3.2
@@ -153,7 +153,7 @@ module _ {H F I R K : Type 0} (m : host.Ghosts H F I) (d : disk.Ghosts F) (s : s
         let it = did_till followed.middle over.after followed.cursor does.left (earlier ends over.errors over.before) does.errors does.end in record {
           over = over;
           followed = followed;
-          holds = leads_over m d k l old new path address ends AppliesOver over same followed.found followed.middle followed.cursor does.left (fault_in does.end) followed.taken (lines_clean l it m s r input input_new followed.found does.read file a does.answers)
+          holds = leads_over m d k l old new path address ends AppliesOver over same followed.found followed.middle followed.cursor does.left (fault_in_call does.end) followed.taken (lines_clean l it m s r input input_new followed.found does.read file a does.answers)
               (λ lines kept h follows clean. lines_over l it m s r input input_new followed.found does.read file a does.answers lines kept h follows clean);
         }
 
@@ -175,7 +175,7 @@ module _ {H F I R K : Type 0} (m : host.Ghosts H F I) (d : disk.Ghosts F) (s : s
           let it = did_till followed.middle over.after followed.cursor does.left (earlier ends over.errors over.before) does.errors does.end in record {
             over = over;
             followed = followed;
-            holds = leads_over m d k l old new path address ends ImportsOver over same followed.found followed.middle followed.cursor does.left (fault_in does.end) followed.taken (list_clean l it m s r input input_new followed.found does.read list import does.answers)
+            holds = leads_over m d k l old new path address ends ImportsOver over same followed.found followed.middle followed.cursor does.left (fault_in_call does.end) followed.taken (list_clean l it m s r input input_new followed.found does.read list import does.answers)
                 (λ lines kept h follows clean. list_over l it m s r input input_new followed.found does.read list import does.answers lines kept h follows clean);
           }
 

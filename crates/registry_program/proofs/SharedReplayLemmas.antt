@@ -24,7 +24,7 @@ use Rattle.shared_log.specs.Calls.{KeepsLines, LogLines}
 use Rattle.shared_log.specs.declared.log.Log as log
 use Rattle.shared_registry.specs.Cursors.{log_of}
 use Rattle.shared_registry.specs.Follows.{HasFollowed, IsLeft}
-use Rattle.shared_registry.specs.Lines.{fault_in}
+use Rattle.shared_registry.specs.Lines.{fault_in_call}
 use Rattle.shared_registry.specs.declared.cursor.Cursor.{Cursor}
 use Rattle.shared_registry.specs.declared.stop.ShareStop.{ShareStop}
 use Rattle.registry_program.specs.declared.host.Host as host
@@ -42,7 +42,7 @@ use Rattle.registry_program.proofs.WholeLemmas.{kept_unless_failed}
 
 -- what a registry leaves that acted on the lines of a log
 replayed_over : {S L : Type 0} {g : Ghosts S} (l : log.Ghosts L) (lines : L → LogLines) (c : Cursor L) (it_new : Registry S g) (c_new : Cursor L) (clean : HasCleanDisk (state_of it_new)) (h : History) (end : Result (Unit {0}) ShareStop)
-    → OnOk end (HasFollowed l lines c it_new c_new h) → IfErr end (IsLeft l lines c it_new c_new h) → LeavesOver l lines it_new c_new clean (fault_in end) h
+    → OnOk end (HasFollowed l lines c it_new c_new h) → IfErr end (IsLeft l lines c it_new c_new h) → LeavesOver l lines it_new c_new clean (fault_in_call end) h
 replayed_over l lines c it_new c_new clean h (Ok done) whole stopped = following_over l lines it_new c_new clean h None (whole.now, whole.leads, whole.follows)
 replayed_over l lines c it_new c_new clean h (Err stop) whole stopped = left_over l lines it_new c_new clean c h stop stopped
 
@@ -75,17 +75,17 @@ module _ {H F I K : Type 0} (m : host.Ghosts H F I) (d : disk.Ghosts F) (k : log
         was_clean clean = omega (arith, followed.taken.joins.untouched.survives.clean, followed.does.replays.endures.clean, clean)
 
         later : (lines : K → LogLines) → KeepsLines l lines → (h : History) → HasValidFields h → Represents it h → (clean : HasCleanDisk (state_of after))
-            → LeavesOver l lines after followed.does.left clean (fault_in followed.does.end) h
+            → LeavesOver l lines after followed.does.left clean (fault_in_call followed.does.end) h
         later lines kept h valid stands clean =
             let did = followed.does.replays in
             let mid : HasCleanDisk (state_of followed.middle) = omega (arith, did.endures.clean, clean) in
             let begins = followed.taken.joins.follows lines kept h stands valid mid in
             replayed_over l lines followed.cursor after followed.does.left clean h followed.does.end (did.whole lines kept h begins clean) (did.stopped lines kept h begins clean)
 
-        held : LeadsFilesOver m d l old path on.closes.files followed.does.left (fault_in followed.does.end)
-        held lines kept h valid = goes_to was_clean h (IsLeftOver (lines (log_of followed.does.left)) (fault_in followed.does.end) h) (λ stands clean. later lines kept h valid stands clean)
+        held : LeadsFilesOver m d l old path on.closes.files followed.does.left (fault_in_call followed.does.end)
+        held lines kept h valid = goes_to was_clean h (IsLeftOver (lines (log_of followed.does.left)) (fault_in_call followed.does.end) h) (λ stands clean. later lines kept h valid stands clean)
 
-        made : HasNoMeta (file_state on.conn).now → AreMadeOver m d k l founding address old new path ends on.closes.files followed.does.left (fault_in followed.does.end)
+        made : HasNoMeta (file_state on.conn).now → AreMadeOver m d k l founding address old new path ends on.closes.files followed.does.left (fault_in_call followed.does.end)
         made none lines kept valid honest =
             let clean_last : HasCleanDisk (file_state last) = closed_clean last on.closes.files on.closes.closed.closed honest in
             let clean : HasCleanDisk (state_of after) = subst (λ c. HasCleanDisk (file_state c)) is_of clean_last in

@@ -19,7 +19,7 @@ use Rattle.shared_log.specs.Calls.{KeepsLines, LogLines}
 use Rattle.shared_log.specs.declared.log.Log as log
 use Rattle.shared_registry.specs.Cursors.{log_of}
 use Rattle.shared_registry.specs.Follows.{Follows, FollowsLater, IsLeft}
-use Rattle.shared_registry.specs.Lines.{fault_of}
+use Rattle.shared_registry.specs.Lines.{fault_of_stop}
 use Rattle.shared_registry.specs.declared.cursor.Cursor.{Cursor}
 use Rattle.shared_registry.specs.declared.stop.ShareStop.{ShareStop}
 use Rattle.shared_registry.specs.declared.stop.ShareStop.TheVariants as stops
@@ -53,7 +53,7 @@ module _ {S : Type 0} {g : Ghosts S} {L : Type 0} (l : log.Ghosts L) (lines : L 
   pub over_earlier : (h x : History) (fault : Option Fault) → LeadsTo h x → LeavesOver fault x → LeavesOver fault h
   over_earlier h x fault leads it = (it.0, it.1, (leads_on h x it.0 leads it.2.0, it.2.1, it.2.2, it.2.3), it.3)
 
-  pub left_over : (c : Cursor L) (h : History) (stop : ShareStop) → IsLeft l lines c it_new c_new h stop → LeavesOver (fault_of stop) h
+  pub left_over : (c : Cursor L) (h : History) (stop : ShareStop) → IsLeft l lines c it_new c_new h stop → LeavesOver (fault_of_stop stop) h
   left_over c h (stops.Registry fault) it = let two = it.1 in (two.last, two.next, (two.leads, two.goes_on, two.last_of, two.next_of), two.leaves)
   left_over c h (stops.Log fault) it = following_over h None it.0
   left_over c h (stops.OtherRecord n) it = following_over h None (it.0, it.1, it.2)
@@ -62,13 +62,13 @@ module _ {S : Type 0} {g : Ghosts S} {L : Type 0} (l : log.Ghosts L) (lines : L 
   left_over c h stops.Full it = following_over h None it.0
   left_over c h stops.NoMemory it = following_over h None it
 
-  unserved_over : (c : Cursor L) (h : History) (bytes : List ℕ) (stop : ShareStop) → IsUnserved l lines c it_new c_new h bytes stop → LeavesOver (fault_of stop) h
-  unserved_over c h bytes stop it = elim it [ inl left ↦ left_over c h stop left | inr failed ↦ following_over h (fault_of stop) failed.2 ]
+  unserved_over : (c : Cursor L) (h : History) (bytes : List ℕ) (stop : ShareStop) → IsUnserved l lines c it_new c_new h bytes stop → LeavesOver (fault_of_stop stop) h
+  unserved_over c h bytes stop it = elim it [ inl left ↦ left_over c h stop left | inr failed ↦ following_over h (fault_of_stop stop) failed.2 ]
 
   ends_over : (c : Cursor L) (h : History) (visits : List Visit) (stop : Option ShareStop) → EndsOver l lines c it_new c_new h visits stop → LeavesOver (fault_behind stop) h
   ends_over c h visits None it = following_over h None (it.0, turns_lead l lines c h visits c_new it.0 it.1, it.2)
   ends_over c h visits (Some stop) it =
-      over_earlier h it.middle (fault_of stop) (turns_lead l lines c h it.before it.place it.middle it.turns) (unserved_over it.place it.middle it.last.bytes stop it.left)
+      over_earlier h it.middle (fault_of_stop stop) (turns_lead l lines c h it.before it.place it.middle it.turns) (unserved_over it.place it.middle it.last.bytes stop it.left)
 
 -- ---- a command over a log
 

@@ -16,11 +16,11 @@ use Rattle.registry_commands.specs.Ends.{Ends, Sunk}
 use Rattle.registry_commands.specs.Replayed.{IsFoundOrOpen, IsLeftFound, connection_left}
 use Rattle.shared_log.specs.Calls.{AtSomeInstant, KeepsLines, LogLines}
 use Rattle.shared_log.specs.declared.log.Log as log
-use Rattle.shared_registry.specs.Asks.{AppendsNothing, IsAsked}
+use Rattle.shared_registry.specs.Asks.{AppendsNothing, IsLogAsked}
 use Rattle.shared_registry.specs.Cursors.{log_of}
 use Rattle.shared_registry.specs.Follows.{Follows, HasFollowed, IsLeft}
-use Rattle.shared_registry.specs.Founded.{BeginsWith, HasNoFounding}
-use Rattle.shared_registry.specs.Lines.{fault_in}
+use Rattle.shared_registry.specs.Founded.{BeginsWithFounding, HasNoFounding}
+use Rattle.shared_registry.specs.Lines.{fault_in_call}
 use Rattle.shared_registry.specs.declared.cursor.Cursor.{Cursor}
 use Rattle.shared_registry.specs.declared.stop.ShareStop.{ShareStop}
 use Rattle.registry_program.specs.declared.host.Host as host
@@ -35,8 +35,8 @@ module _ {S L : Type 0} {g : store.Ghosts S} (l : log.Ghosts L) (it after : Regi
   pub record HasReplayedLog : Type 0 where
     pub whole : (lines : L → LogLines) → KeepsLines l lines → (h : History) → Follows l lines it cursor h → HasCleanDisk (state_of after) → OnOk end (HasFollowed l lines cursor after left h)
     pub stopped : (lines : L → LogLines) → KeepsLines l lines → (h : History) → Follows l lines it cursor h → HasCleanDisk (state_of after) → IfErr end (IsLeft l lines cursor after left h)
-    pub asks : IsAsked l AppendsNothing cursor.log left.log
-    pub notes : NotesForeign it after (fault_in end)
+    pub asks : IsLogAsked l AppendsNothing cursor.log left.log
+    pub notes : NotesForeign it after (fault_in_call end)
     pub endures : Endures (state_of it) (state_of after)
 
 module _ {H K : Type 0} (k : logs.Ghosts H K) (l : log.Ghosts K) where
@@ -58,8 +58,8 @@ module _ {H K : Type 0} (k : logs.Ghosts H K) (l : log.Ghosts K) where
     pub log : K
     pub last : K
     pub finds : k.finds old found address log
-    pub begins : (lines : K → LogLines) → KeepsLines l lines → AtSomeInstant (lines log) (lines last) (BeginsWith founding)
-    pub asks : IsAsked l AppendsNothing log last
+    pub begins : (lines : K → LogLines) → KeepsLines l lines → AtSomeInstant (lines log) (lines last) (BeginsWithFounding founding)
+    pub asks : IsLogAsked l AppendsNothing log last
     pub closes : k.closes found new last
 
   -- there is none, for this reason
@@ -70,7 +70,7 @@ module _ {H K : Type 0} (k : logs.Ghosts H K) (l : log.Ghosts K) where
     pub finds : k.finds old found address log
     pub stop : ShareStop
     pub why : (lines : K → LogLines) → KeepsLines l lines → HasNoFounding l lines log last stop
-    pub asks : IsAsked l AppendsNothing log last
+    pub asks : IsLogAsked l AppendsNothing log last
     pub leaves : k.leaves found new last stop
     pub tells : TellsStop stop ends
 

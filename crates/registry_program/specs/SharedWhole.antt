@@ -28,7 +28,7 @@ use Rattle.shared_log.specs.declared.log.Log as log
 use Rattle.shared_registry.specs.Cursors.{log_of}
 use Rattle.shared_registry.specs.declared.cursor.Cursor.{Cursor}
 use Rattle.shared_registry.specs.Follows.{GoesOnByOne}
-use Rattle.shared_registry.specs.Lines.{fault_in}
+use Rattle.shared_registry.specs.Lines.{fault_in_call}
 use Rattle.shared_desk.specs.Refusals.{fault_behind}
 use Rattle.shared_desk.specs.Server.{stop_in}
 use Rattle.registry_program.specs.declared.host.Host as host
@@ -78,7 +78,7 @@ module _ {H F I R K : Type 0} (m : host.Ghosts H F I) (d : disk.Ghosts F) (s : s
     pub record IsAppliedFrom (file : List ℕ) (answered : ℕ) (address : List ℕ) (ends : Ends) : Type 0 where
       pub over : IsRunOver m d old new path ends (FollowsReading m d s r k l input input_new address (AppliesJoined m d s r k l file answered input input_new))
       pub followed : IsFollowed k l address (AppliesJoined m d s r k l file answered input input_new) over.opened over.done over.it over.after (earlier ends over.errors over.before)
-      pub holds : LeadsFilesOver m d l old path over.closes.files followed.does.left (fault_in followed.does.end)
+      pub holds : LeadsFilesOver m d l old path over.closes.files followed.does.left (fault_in_call followed.does.end)
 
     -- apply STORE FILE over a log; without a log the history stays
     abbrev pub AppliesSharedWholly : List ℕ → ℕ → List ℕ → Ends → Type 0
@@ -90,7 +90,7 @@ module _ {H F I R K : Type 0} (m : host.Ghosts H F I) (d : disk.Ghosts F) (s : s
     pub record IsImportedFrom (list : List ℕ) (import : Import) (address : List ℕ) (ends : Ends) : Type 0 where
       pub over : IsRunOver m d old new path ends (FollowsReading m d s r k l input input_new address (ImportsJoined m d s r k l list import input input_new))
       pub followed : IsFollowed k l address (ImportsJoined m d s r k l list import input input_new) over.opened over.done over.it over.after (earlier ends over.errors over.before)
-      pub holds : LeadsFilesOver m d l old path over.closes.files followed.does.left (fault_in followed.does.end)
+      pub holds : LeadsFilesOver m d l old path over.closes.files followed.does.left (fault_in_call followed.does.end)
 
     abbrev pub ImportsSharedWhollyAs : List ℕ → Result Import (Rejection BadArgument) → List ℕ → Ends → Type 0
     ImportsSharedWhollyAs list (Ok import) address ends =
@@ -120,8 +120,8 @@ module _ {H F I K : Type 0} (m : host.Ghosts H F I) (d : disk.Ghosts F) (k : log
     pub after : TheRegistry m d
     pub left_is : on.left ≡ Ok after
     pub followed : IsFollowed k l address (ReplaysJoined k l) on.opened on.done it after (earlier ends on.errors on.before)
-    pub holds : LeadsFilesOver m d l old path on.closes.files followed.does.left (fault_in followed.does.end)
-    pub made : HasNoMeta (file_state on.conn).now → AreMadeOver on.closes.files followed.does.left (fault_in followed.does.end)
+    pub holds : LeadsFilesOver m d l old path on.closes.files followed.does.left (fault_in_call followed.does.end)
+    pub made : HasNoMeta (file_state on.conn).now → AreMadeOver on.closes.files followed.does.left (fault_in_call followed.does.end)
 
   -- the log was not taken up: the history that the files held stays
   pub record IsLeftBehind : Type 0 where

@@ -21,10 +21,10 @@ use Rattle.registry_desk.specs.Server.{HaveVisited, Visit}
 use Rattle.shared_log.specs.Calls.{KeepsLines, LogLines}
 use Rattle.shared_log.specs.declared.fault.LogFault.TheVariants as log_faults
 use Rattle.shared_log.specs.declared.log.Log as log
-use Rattle.shared_registry.specs.Asks.{AppendsNothing, AppendsRecord, IsAsked, IsAskedFor}
+use Rattle.shared_registry.specs.Asks.{AppendsNothing, AppendsRecord, IsLogAsked, IsAskedFor}
 use Rattle.shared_registry.specs.Cursors.{log_of}
 use Rattle.shared_registry.specs.Follows.{Follows}
-use Rattle.shared_registry.specs.Lines.{fault_in}
+use Rattle.shared_registry.specs.Lines.{fault_in_call}
 use Rattle.shared_registry.specs.Records.{IsUnshared, stop_in}
 use Rattle.shared_registry.specs.declared.cursor.Cursor.{Cursor}
 use Rattle.shared_registry.specs.declared.stop.ShareStop.{ShareStop}
@@ -87,7 +87,7 @@ module _ {S L : Type 0} {g : store.Ghosts S} (l : log.Ghosts L) (it after : Regi
     pub follows : (lines : L → LogLines) → KeepsLines l lines → (h : History) → Represents it h → HasValidFields h → HasCleanDisk (state_of after) → IfOk end (λ cursor. Follows l lines after cursor h)
     pub stopped : (lines : L → LogLines) → KeepsLines l lines → (h : History) → Represents it h → HasValidFields h → HasCleanDisk (state_of after) → IfErr end (λ left. IsUnshared l lines h log left.1 left.0)
     pub untouched : IsUntouched it after
-    pub notes : NotesForeign it after (fault_in (stop_in end))
+    pub notes : NotesForeign it after (fault_in_call (stop_in end))
     pub when_poisoned : is_poisoned it ≡ true → stop_in end ≡ Err (stops.Registry faults.Poisoned)
 
 module _ {H K : Type 0} (k : logs.Ghosts H K) where
@@ -154,7 +154,7 @@ module _ {H F I R W K : Type 0} (m : host.Ghosts H F I) (c : connections.Ghosts 
         × desk.IsToldLast visits (desk.stop_in end)
         × ((lines : K → LogLines) → KeepsLines l lines → (h : History) → Follows l lines it cursor h → HasCleanDisk (state_of after) → desk.EndsOver l lines cursor after cursor_new h visits (desk.stop_in end))
         × (is_poisoned it ≡ true → All desk.IsTurnedAwayAt visits × (after ≡ it) × (cursor_new ≡ cursor))
-        × ((lines : K → LogLines) → KeepsLines l lines → (h : History) → Follows l lines it cursor h → HasCleanDisk (state_of after) → IsAsked l (AppendsOrdersIn (lines cursor_new.log) h visits) cursor.log cursor_new.log)
+        × ((lines : K → LogLines) → KeepsLines l lines → (h : History) → Follows l lines it cursor h → HasCleanDisk (state_of after) → IsLogAsked l (AppendsOrdersIn (lines cursor_new.log) h visits) cursor.log cursor_new.log)
     pub notes : NotesForeign it after (fault_behind (desk.stop_in end))
     pub endures : Endures (state_of it) (state_of after)
 

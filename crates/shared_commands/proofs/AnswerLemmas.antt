@@ -16,8 +16,8 @@ use Rattle.registry_commands.specs.Ends.{Sunk}
 use Rattle.registry_commands.specs.Messages.{reply_line, reply_lines}
 use Rattle.shared_log.specs.Calls.{LogLines}
 use Rattle.shared_log.specs.declared.log.Log.{Ghosts as LogGhosts}
-use Rattle.shared_registry.specs.Asks.{AppendsRequest, IsAsked}
-use Rattle.shared_registry.specs.Follows.{Follows, IsAnswered}
+use Rattle.shared_registry.specs.Asks.{AppendsRequest, IsLogAsked}
+use Rattle.shared_registry.specs.Follows.{Follows, IsAnsweredOverLog}
 use Rattle.shared_registry.specs.declared.cursor.Cursor.{Cursor}
 use Rattle.shared_registry.proofs.LineLemmas.{leads_nowhere, leads_on}
 use Rattle.shared_commands.specs.declared.answering.AnswerStop.{AnswerStop}
@@ -73,7 +73,7 @@ module _ {L : Type 0} (l : LogGhosts L) (lines : L → LogLines) where
   )
 
 module _ {S : Type 0} {g : Ghosts S} {L : Type 0} (l : LogGhosts L) (lines : L → LogLines) where
-  of_answered : (c : Cursor L) (it : Registry S g) (c_new : Cursor L) (h : History) (r : Request) (reply : Reply) → (answered : IsAnswered l lines c it c_new h r reply) → IsAsked l (AppendsRequest (lines c_new.log) h r) c.log c_new.log → IsAnsweredBy l lines c h r reply c_new (after_one answered.before r)
+  of_answered : (c : Cursor L) (it : Registry S g) (c_new : Cursor L) (h : History) (r : Request) (reply : Reply) → (answered : IsAnsweredOverLog l lines c it c_new h r reply) → IsLogAsked l (AppendsRequest (lines c_new.log) h r) c.log c_new.log → IsAnsweredBy l lines c h r reply c_new (after_one answered.before r)
   of_answered c it c_new h r reply answered asks =
       record { before = answered.before; leads = answered.leads; whole = answered.whole; reply_is = answered.reply_is; next_is = refl; of_machine = answered.follows.of_machine; asks = asks }
 
@@ -83,7 +83,7 @@ module _ {S : Type 0} {g : Ghosts S} {L : Type 0} (l : LogGhosts L) (lines : L �
 
   module _ (c : Cursor L) (h : History) (rs : List Request) (i : ℕ) (r : Request) (lt : i < length rs) (is : r ≡ get_or rs i r) (it_mid : Registry S g) (c_mid : Cursor L) (first middle last : Sunk)
       (so_far : HasAnswered l lines it_mid c_mid c h (take i rs) (record { old = first; new = middle })) (it : Registry S g) (c_new : Cursor L)
-      (asks : IsAsked l (AppendsRequest (lines c_new.log) so_far.next r) c_mid.log c_new.log) where
+      (asks : IsLogAsked l (AppendsRequest (lines c_new.log) so_far.next r) c_mid.log c_new.log) where
     -- one more request is answered
     pub one_answered : (status : ExitStatus) → HasReplied l lines it c_new c_mid so_far.next r (record { old = middle; new = last }) status → HasAnswered l lines it c_new c h (take (i + 1) rs) (record { old = first; new = last })
     one_answered status replied =

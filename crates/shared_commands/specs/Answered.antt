@@ -18,9 +18,9 @@ use Rattle.registry_commands.specs.Imports.{exit_status_of}
 use Rattle.registry_commands.specs.Messages.{reply_line, reply_lines}
 use Rattle.shared_log.specs.Calls.{LogLines}
 use Rattle.shared_log.specs.declared.log.Log.{Ghosts as LogGhosts}
-use Rattle.shared_registry.specs.Asks.{AppendsRequest, IsAsked}
-use Rattle.shared_registry.specs.Follows.{Follows, IsAnswered, IsLeft, WasWhole}
-use Rattle.shared_registry.specs.Lines.{fault_of}
+use Rattle.shared_registry.specs.Asks.{AppendsRequest, IsLogAsked}
+use Rattle.shared_registry.specs.Follows.{Follows, IsAnsweredOverLog, IsLeft, WasWhole}
+use Rattle.shared_registry.specs.Lines.{fault_of_stop}
 use Rattle.shared_registry.specs.declared.cursor.Cursor.{Cursor}
 use Rattle.shared_commands.specs.declared.answering.AnswerStop.{AnswerStop}
 use Rattle.shared_commands.specs.declared.answering.AnswerStop.TheVariants as stops
@@ -28,7 +28,7 @@ use Rattle.shared_commands.specs.declared.answering.AnswerStop.TheVariants as st
 -- the fault of a registry that stopped a call, if one did
 abbrev pub fault_behind : {A : Type 0} → Result A AnswerStop → Option Fault
 fault_behind (Ok it) = None
-fault_behind (Err (stops.Share stop)) = fault_of stop
+fault_behind (Err (stops.Share stop)) = fault_of_stop stop
 fault_behind (Err (stops.Output failure)) = None
 
 -- What a stop says of the writes. If a line was cut, memory ran out for it, or one write failed. No other write did.
@@ -51,7 +51,7 @@ module _ {L : Type 0} (l : LogGhosts L) (lines : L → LogLines) where
     pub reply_is : reply ≡ reply_to before r
     pub next_is : next ≡ after_one before r
     pub of_machine : IsOfMachine (lines c_new.log) next
-    pub asks : IsAsked l (AppendsRequest (lines c_new.log) h r) c.log c_new.log
+    pub asks : IsLogAsked l (AppendsRequest (lines c_new.log) h r) c.log c_new.log
 
   -- requests got these replies, one after another
   abbrev pub AreAnswered : Cursor L → History → List Request → List Reply → Cursor L → History → Type 0
@@ -64,7 +64,7 @@ module _ {S : Type 0} {g : Ghosts S} {L : Type 0} (l : LogGhosts L) (lines : L �
   -- a request is answered, and its reply line written; the status says whether it is a refusal
   pub record HasReplied (c : Cursor L) (h : History) (r : Request) (out : Output) (status : ExitStatus) : Type 0 where
     pub reply : Reply
-    pub answered : IsAnswered l lines c it_new c_new h r reply
+    pub answered : IsAnsweredOverLog l lines c it_new c_new h r reply
     pub written : Appends out.old.contents out.new.contents (reply_line reply)
     pub status_is : status ≡ exit_status_of reply
 
@@ -73,7 +73,7 @@ module _ {S : Type 0} {g : Ghosts S} {L : Type 0} (l : LogGhosts L) (lines : L �
   abbrev pub IsCut : Cursor L → History → Request → Option (List ℕ) → Option (List ℕ) → AnswerStop → Type 0
   IsCut c h r text text_new (stops.Share stop) = IsLeft l lines c it_new c_new h stop × (text_new ≡ text)
   IsCut c h r text text_new (stops.Output failure) =
-      (reply : Reply) × IsAnswered l lines c it_new c_new h r reply × AppendsPrefix text text_new (reply_line reply) × (failure ≡ Memory → text_new ≡ text)
+      (reply : Reply) × IsAnsweredOverLog l lines c it_new c_new h r reply × AppendsPrefix text text_new (reply_line reply) × (failure ≡ Memory → text_new ≡ text)
 
   module _ (c : Cursor L) (h : History) (rs : List Request) (out : Output) where
     -- all requests are answered, their reply lines are written, and the registry follows the log with them
@@ -98,4 +98,4 @@ module _ {S : Type 0} {g : Ghosts S} {L : Type 0} (l : LogGhosts L) (lines : L �
       pub middle : Option (List ℕ)
       pub written : Appends out.old.contents middle (reply_lines replies)
       pub stopped : IsCut place last next middle out.new.contents stop
-      pub asks : IsAsked l (AppendsRequest (lines c_new.log) last next) place.log c_new.log
+      pub asks : IsLogAsked l (AppendsRequest (lines c_new.log) last next) place.log c_new.log

@@ -17,7 +17,7 @@ use Rattle.registry_commands.specs.Messages.{bad_line_text, exceeds_text, failur
 use Rattle.shared_log.specs.Calls.{KeepsLines, LogLines}
 use Rattle.shared_log.specs.declared.log.Log.{Ghosts as LogGhosts}
 use Rattle.shared_registry.specs.Follows.{Follows}
-use Rattle.shared_registry.specs.Lines.{fault_in}
+use Rattle.shared_registry.specs.Lines.{fault_in_call}
 use Rattle.shared_registry.specs.declared.cursor.Cursor.{Cursor}
 use Rattle.shared_registry.specs.declared.stop.ShareStop.{ShareStop}
 use Rattle.shared_commands.specs.declared.answering.AnswerStop.TheVariants as stops
@@ -70,7 +70,7 @@ module _ {S : Type 0} {g : Ghosts S} {L : Type 0} (l : LogGhosts L) (it : Did S 
   pub record DidRun (rs : List Request) : Type 0 where
     pub ends : EndsRun rs it.end
     pub when_poisoned : is_poisoned it.old ≡ true → (it.new ≡ it.old) × (it.to ≡ it.from) × (it.out.new.contents ≡ it.out.old.contents)
-    pub notes : NotesForeign it.old it.new (fault_in it.end)
+    pub notes : NotesForeign it.old it.new (fault_in_call it.end)
     pub endures : Endures (state_of it.old) (state_of it.new)
 
   -- what a command on request lines did: those after the first a were answered, or no requests were read

@@ -18,8 +18,8 @@ use Rattle.registry_commands.specs.Imports.{request_of_import}
 use Rattle.registry_commands.specs.LookUp.{IsListRefused}
 use Rattle.registry_commands.specs.Messages.{failure_line}
 use Rattle.shared_log.specs.declared.log.Log.{Ghosts as LogGhosts}
-use Rattle.shared_registry.specs.Asks.{AppendsRequest, IsAsked}
-use Rattle.shared_registry.specs.Lines.{fault_in}
+use Rattle.shared_registry.specs.Asks.{AppendsRequest, IsLogAsked}
+use Rattle.shared_registry.specs.Lines.{fault_in_call}
 use Rattle.shared_registry.specs.declared.stop.ShareStop.{ShareStop}
 use Rattle.shared_commands.specs.declared.answering.AnswerStop.TheVariants as stops
 use Rattle.shared_commands.specs.Answered.{HasReplied, IsCut, TellsWrites}
@@ -43,9 +43,9 @@ module _ {S : Type 0} {g : Ghosts S} {L : Type 0} (l : LogGhosts L) (it : Did S 
   -- This request was answered, or not. A poisoned registry does not act on it.
   pub record DidOne (r : Request) : Type 0 where
     pub ends : EndsOne r it.end
-    pub asks : FollowedWith l it (λ lines h. IsAsked l (AppendsRequest (lines it.to.log) h r) it.from.log it.to.log)
+    pub asks : FollowedWith l it (λ lines h. IsLogAsked l (AppendsRequest (lines it.to.log) h r) it.from.log it.to.log)
     pub when_poisoned : is_poisoned it.old ≡ true → (it.new ≡ it.old) × (it.to ≡ it.from) × (it.out.new ≡ it.out.old)
-    pub notes : NotesForeign it.old it.new (fault_in it.end)
+    pub notes : NotesForeign it.old it.new (fault_in_call it.end)
     pub endures : Endures (state_of it.old) (state_of it.new)
 
   -- what an import did: the request of the list in these bytes was answered, or no list was read

@@ -6,7 +6,7 @@ ghost use Rattle.registry_rules.specs.History.{History};
 ghost use Rattle.registry_store.specs.Promise.{Endures, NotesForeign, is_poisoned, state_of};
 ghost use Rattle.registry_commands.specs.Ends.{output_of};
 ghost use Rattle.shared_log.specs.Calls.{KeepsLines, LogLines};
-ghost use Rattle.shared_registry.specs.Asks.{AppendsRequest, IsAsked};
+ghost use Rattle.shared_registry.specs.Asks.{AppendsRequest, IsLogAsked};
 ghost use Rattle.shared_registry.specs.Follows.{Follows};
 ghost use Rattle.shared_registry.specs.declared.stop.ShareStop.TheVariants as shares;
 ghost use Rattle.shared_commands.specs.declared.answering.AnswerStop.TheVariants as stops;
@@ -43,7 +43,7 @@ pub(crate) fn answer<S: Alter, L: Log, W: Sink>(
     ensures err { (lines : L → LogLines) → KeepsLines L.Log lines → (h : History) → Follows L.Log lines registry.old cursor.old h → HasCleanDisk (state_of registry.new)
         → IfErr result (IsCut L.Log lines registry.new cursor.new cursor.old h request.now (W.contents output.old) (W.contents output.new)) }
     ensures asks { (lines : L → LogLines) → KeepsLines L.Log lines → (h : History) → Follows L.Log lines registry.old cursor.old h → HasCleanDisk (state_of registry.new)
-        → IsAsked L.Log (AppendsRequest (lines cursor.new.log) h request.now) cursor.old.log cursor.new.log }
+        → IsLogAsked L.Log (AppendsRequest (lines cursor.new.log) h request.now) cursor.old.log cursor.new.log }
     ensures when_poisoned { is_poisoned registry.old ≡ true → (result ≡ Err (stops.Share (shares.Registry Fault.Poisoned))) × (registry.new ≡ registry.old) × (cursor.new ≡ cursor.old) }
     ensures kept { OnOk result (W.failures output.new ≡ W.failures output.old) }
     ensures writes { IfErr result (TellsWrites (W.failures output.old) (W.failures output.new)) }

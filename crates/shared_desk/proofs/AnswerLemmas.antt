@@ -24,7 +24,7 @@ use Rattle.registry_desk.specs.Cache.{AreTextsOf, no_texts, with_text}
 use Rattle.registry_desk.proofs.CacheLemmas.{none_are}
 use Rattle.shared_log.specs.Calls.{LogLines}
 use Rattle.shared_log.specs.declared.log.Log.{Ghosts as LogGhosts}
-use Rattle.shared_registry.specs.Follows.{Follows, HasFollowed, IsAnswered, IsLeft}
+use Rattle.shared_registry.specs.Follows.{Follows, HasFollowed, IsAnsweredOverLog, IsLeft}
 use Rattle.shared_registry.specs.declared.cursor.Cursor.{Cursor}
 use Rattle.shared_registry.specs.declared.stop.ShareStop.TheVariants as stops
 use Rattle.shared_registry.proofs.ActLemmas.{longer_by, unmoved}
@@ -76,7 +76,7 @@ module _ {S : Type 0} {g : Ghosts S} {L : Type 0} (l : LogGhosts L) (lines : L �
   -- ---- orders
 
   -- an order was answered over the history of the whole log
-  pub order_answered : (new : Registry S g) (c_new : Cursor L) (r : Request) (reply : Reply) (response : Response) (cache cache_new : Cache) → IsAnswered l lines c new c_new h r reply → response ≡ reply_response reply
+  pub order_answered : (new : Registry S g) (c_new : Cursor L) (r : Request) (reply : Reply) (response : Response) (cache cache_new : Cache) → IsAnsweredOverLog l lines c new c_new h r reply → response ≡ reply_response reply
       → c.next ≡ length (record_of h) → AreTextsOf h cache → cache_new ≡ (if nat_eq c_new.next c.next then cache else no_texts) → Answers l lines c new c_new h (Ok (messages.Request r)) response cache_new
   order_answered new c_new r reply response cache cache_new it is at_h of dropped = record {
     next = after_one it.before r;
@@ -88,7 +88,7 @@ module _ {S : Type 0} {g : Ghosts S} {L : Type 0} (l : LogGhosts L) (lines : L �
   }
 
   -- it has taken effect, and memory ran out for its response
-  pub order_unanswered : (new : Registry S g) (c_new : Cursor L) (r : Request) (reply : Reply) → IsAnswered l lines c new c_new h r reply → IsLeft l lines c new c_new h stops.NoMemory
+  pub order_unanswered : (new : Registry S g) (c_new : Cursor L) (r : Request) (reply : Reply) → IsAnsweredOverLog l lines c new c_new h r reply → IsLeft l lines c new c_new h stops.NoMemory
   order_unanswered new c_new r reply it = (after_one it.before r, leads_on h it.before (after_one it.before r) it.leads (r ∷ [], refl), it.follows)
 
   -- ---- messages that are refused

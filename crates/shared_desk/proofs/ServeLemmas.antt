@@ -24,7 +24,7 @@ use Rattle.registry_desk.specs.Cache.{AreTextsOf, cache_after}
 use Rattle.registry_desk.proofs.CacheLemmas.{texts_after}
 use Rattle.shared_log.specs.Calls.{LogLines}
 use Rattle.shared_log.specs.declared.log.Log.{Ghosts as LogGhosts}
-use Rattle.shared_registry.specs.Lines.{fault_in}
+use Rattle.shared_registry.specs.Lines.{fault_in_call}
 use Rattle.shared_registry.specs.declared.cursor.Cursor.{Cursor}
 use Rattle.shared_registry.specs.declared.stop.ShareStop.{ShareStop}
 use Rattle.shared_registry.specs.declared.stop.ShareStop.TheVariants as stops
@@ -60,7 +60,7 @@ pub told_by : (done : Result Response ShareStop) (response : Response) (stop : O
 told_by (Ok wanted) response stop told = subst (λ (s : Option ShareStop). IsToldBy s response) (sym told.1) tt
 told_by (Err why) response stop told = subst (λ (s : Option ShareStop). IsToldBy s response) (sym told.1) told.0
 
-pub same_fault : (done : Result Response ShareStop) (response : Response) (stop : Option ShareStop) → IsTold done response stop → fault_behind stop ≡ fault_in done
+pub same_fault : (done : Result Response ShareStop) (response : Response) (stop : Option ShareStop) → IsTold done response stop → fault_behind stop ≡ fault_in_call done
 same_fault (Ok wanted) response stop told = ap fault_behind told.1
 same_fault (Err why) response stop told = ap fault_behind told.1
 

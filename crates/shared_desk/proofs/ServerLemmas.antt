@@ -26,7 +26,7 @@ use Rattle.registry_desk.proofs.ServerLemmas.{length_more, visited_more}
 use Rattle.shared_log.specs.Calls.{KeepsLines, LogLines}
 use Rattle.shared_log.specs.declared.fault.LogFault.{LogFault}
 use Rattle.shared_log.specs.declared.log.Log.{Ghosts as LogGhosts}
-use Rattle.shared_registry.specs.Asks.{IsAsked}
+use Rattle.shared_registry.specs.Asks.{IsLogAsked}
 use Rattle.shared_registry.specs.Follows.{Follows, FollowsLater, HasFailed}
 use Rattle.shared_registry.specs.declared.cursor.Cursor.{Cursor}
 use Rattle.shared_registry.specs.declared.stop.ShareStop.{ShareStop}
@@ -135,7 +135,7 @@ module _ {S C R W : Type 0} {g : Ghosts S} {L : Type 0} (l : LogGhosts L) (opens
       × IsToldAt visit stop
       × ((lines : L → LogLines) → KeepsLines l lines → (h : History) → Follows l lines it c h → HasCleanDisk (state_of last) → AreTextsOf h cache → EndsBeside l lines c last c_new h visit cache_new stop)
       × (is_poisoned it ≡ true → IsTurnedAwayAt visit × (last ≡ it) × (c_new ≡ c))
-      × ((lines : L → LogLines) → KeepsLines l lines → (h : History) → Follows l lines it c h → HasCleanDisk (state_of last) → IsAsked l (AppendsOrderIn (lines c_new.log) h visit.bytes) c.log c_new.log)
+      × ((lines : L → LogLines) → KeepsLines l lines → (h : History) → Follows l lines it c h → HasCleanDisk (state_of last) → IsLogAsked l (AppendsOrderIn (lines c_new.log) h visit.bytes) c.log c_new.log)
 
   -- a message was served between the opening and the closing of a connection
   pub visit_of : (old opened new : C) (reader reader_new : R) (writer writer_new : W) (it last : Registry S g) (c c_new : Cursor L) (cache cache_new : Cache) (turn : Result Turn Broken) (status : Option ℕ) (stop : Option ShareStop) (bytes : List ℕ)
@@ -145,7 +145,7 @@ module _ {S C R W : Type 0} {g : Ghosts S} {L : Type 0} (l : LogGhosts L) (opens
       × IsToldBy turn.stop response
       × ((lines : L → LogLines) → KeepsLines l lines → (h : History) → Follows l lines it c h → HasCleanDisk (state_of last) → AreTextsOf h cache → IsServedBeside l lines c last c_new h bytes response cache_new turn.stop)
       × (is_poisoned it ≡ true → IsTurnedAway bytes response turn.stop × (last ≡ it) × (c_new ≡ c))
-      × ((lines : L → LogLines) → KeepsLines l lines → (h : History) → Follows l lines it c h → HasCleanDisk (state_of last) → IsAsked l (AppendsOrderIn (lines c_new.log) h bytes) c.log c_new.log))
+      × ((lines : L → LogLines) → KeepsLines l lines → (h : History) → Follows l lines it c h → HasCleanDisk (state_of last) → IsLogAsked l (AppendsOrderIn (lines c_new.log) h bytes) c.log c_new.log))
       → OnErr turn (FailsAfter (remaining reader) (remaining reader_new) (reads_failed reader) (reads_failed reader_new) IsIncomplete × (writer_new ≡ writer) × (last ≡ it) × (c_new ≡ c) × (cache_new ≡ cache))
       → OnOk turn (reads_failed reader_new ≡ reads_failed reader)
       → Came old new it last c c_new cache cache_new stop
@@ -206,7 +206,7 @@ module _ {S C R W : Type 0} {g : Ghosts S} {L : Type 0} (l : LogGhosts L) (opens
       × IsToldLast visits (stop_in result)
       × ((lines : L → LogLines) → KeepsLines l lines → (h : History) → Follows l lines first c h → HasCleanDisk (state_of last) → EndsOver l lines c last c_new h visits (stop_in result))
       × (is_poisoned first ≡ true → All IsTurnedAwayAt visits × (last ≡ first) × (c_new ≡ c))
-      × ((lines : L → LogLines) → KeepsLines l lines → (h : History) → Follows l lines first c h → HasCleanDisk (state_of last) → IsAsked l (AppendsOrdersIn (lines c_new.log) h visits) c.log c_new.log)
+      × ((lines : L → LogLines) → KeepsLines l lines → (h : History) → Follows l lines first c h → HasCleanDisk (state_of last) → IsLogAsked l (AppendsOrdersIn (lines c_new.log) h visits) c.log c_new.log)
 
   -- a server ends when no more connections come, or at a stop
   pub ended_by : (old middle new : C) (first mid last : Registry S g) (c c_mid c_new : Cursor L) (cache cache_new : Cache) (count : ℕ) (visits : List Visit) (stop : SharedStop)
@@ -214,7 +214,7 @@ module _ {S C R W : Type 0} {g : Ghosts S} {L : Type 0} (l : LogGhosts L) (opens
       → (HasCleanDisk (state_of last) → HasCleanDisk (state_of mid))
       → ((lines : L → LogLines) → KeepsLines l lines → (h : History) → Follows l lines first c h → HasCleanDisk (state_of mid) → FollowsBeside l lines c h mid c_mid cache visits)
       → (is_poisoned first ≡ true → All IsTurnedAwayAt visits × (mid ≡ first) × (c_mid ≡ c))
-      → ((lines : L → LogLines) → KeepsLines l lines → (h : History) → Follows l lines first c h → HasCleanDisk (state_of mid) → IsAsked l (AppendsOrdersIn (lines c_mid.log) h visits) c.log c_mid.log)
+      → ((lines : L → LogLines) → KeepsLines l lines → (h : History) → Follows l lines first c h → HasCleanDisk (state_of mid) → IsLogAsked l (AppendsOrdersIn (lines c_mid.log) h visits) c.log c_mid.log)
       → IfVisited (Err stop) (Came l opens closes remaining reads_failed contents writes_failed middle new mid last c_mid c_new cache cache_new (stop_in (Err stop)))
       → (stop ≡ ends.Connections → fails middle new × (last ≡ mid) × (c_new ≡ c_mid)) → Ends old new first last c c_new count (Err stop)
   ended_by old middle new first mid last c c_mid c_new cache cache_new count visits ends.Connections before less early so_far turned asked came none =
@@ -228,7 +228,7 @@ module _ {S C R W : Type 0} {g : Ghosts S} {L : Type 0} (l : LogGhosts L) (opens
         tt,
         λ lines kept h follows clean. rw (ended.1, ended.2) (ends_after l lines c h mid c_mid cache visits (so_far lines kept h follows (early clean))),
         λ poisoned. let away = turned poisoned in (away.0, ended.1 ∙ away.1, ended.2 ∙ away.2),
-        λ lines kept h follows clean. subst (λ (d : Cursor L). IsAsked l (AppendsOrdersIn (lines d.log) h visits) c.log d.log) (sym ended.2) (asked lines kept h follows (early clean)),
+        λ lines kept h follows clean. subst (λ (d : Cursor L). IsLogAsked l (AppendsOrdersIn (lines d.log) h visits) c.log d.log) (sym ended.2) (asked lines kept h follows (early clean)),
       )
   ended_by old middle new first mid last c c_mid c_new cache cache_new count visits (ends.Share stop) before less early so_far turned asked came none =
       let longer = length_more visits came.0 (length visits) refl in (

@@ -10,7 +10,7 @@ use Rattle.registry_desk.specs.declared.serve.Served.{Served}
 use Rattle.registry_desk.specs.Server.{Visit}
 use Rattle.shared_log.specs.Calls.{Grows, KeepsLines, LogLines}
 use Rattle.shared_log.specs.declared.log.Log.{Ghosts as LogGhosts}
-use Rattle.shared_registry.specs.Asks.{IsAsked}
+use Rattle.shared_registry.specs.Asks.{IsLogAsked}
 use Rattle.shared_registry.specs.declared.cursor.Cursor.{Cursor}
 use Rattle.shared_registry.proofs.AskLemmas.{appends_earlier, asked_grows, asked_then, asked_weaker}
 use Rattle.shared_registry.proofs.FollowLemmas.{grows_none}
@@ -45,8 +45,8 @@ order_earlier log new h x leads grown bytes n line it =
 
 -- orders of these connections, and then that of one more
 pub asked_more : {L : Type 0} (l : LogGhosts L) (lines : L → LogLines) → KeepsLines l lines → (c : Cursor L) (h : History) (visits : List Visit) (c_mid : Cursor L) (x : History) → TurnsOver l lines c h visits c_mid x
-    → (visit : Visit) (c_new : Cursor L) → IsAsked l (AppendsOrdersIn (lines c_mid.log) h visits) c.log c_mid.log → IsAsked l (AppendsOrderIn (lines c_new.log) x visit.bytes) c_mid.log c_new.log
-    → IsAsked l (AppendsOrdersIn (lines c_new.log) h (visits ++ visit ∷ [])) c.log c_new.log
+    → (visit : Visit) (c_new : Cursor L) → IsLogAsked l (AppendsOrdersIn (lines c_mid.log) h visits) c.log c_mid.log → IsLogAsked l (AppendsOrderIn (lines c_new.log) x visit.bytes) c_mid.log c_new.log
+    → IsLogAsked l (AppendsOrdersIn (lines c_new.log) h (visits ++ visit ∷ [])) c.log c_new.log
 asked_more l lines kept c h visits c_mid x turns visit c_new so_far one =
     let log = lines c_new.log in
     let May = AppendsOrdersIn log h (visits ++ visit ∷ []) in

@@ -7,7 +7,7 @@ use Rattle.registry_desk.specs.declared.fault.DeskFault.TheVariants as desk
 use Rattle.registry_desk.specs.Faults.{unavailable_of}
 use Rattle.registry_store.specs.declared.fault.Fault.{Fault}
 use Rattle.shared_log.specs.declared.fault.LogFault.TheVariants as log_faults
-use Rattle.shared_registry.specs.Lines.{fault_of}
+use Rattle.shared_registry.specs.Lines.{fault_of_stop}
 use Rattle.shared_registry.specs.declared.stop.ShareStop.{ShareStop}
 use Rattle.shared_registry.specs.declared.stop.ShareStop.TheVariants as stops
 
@@ -43,4 +43,4 @@ stop_of desk.NoMemory = stops.NoMemory
 -- the fault of the registry behind a response
 abbrev pub fault_behind : Option ShareStop → Option Fault
 fault_behind None = None
-fault_behind (Some stop) = fault_of stop
+fault_behind (Some stop) = fault_of_stop stop

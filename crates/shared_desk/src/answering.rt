@@ -8,8 +8,8 @@ ghost use Rattle.registry_http.specs.Responses.{refusal_response};
 ghost use Rattle.registry_http.specs.declared.message.Message.TheVariants as messages;
 ghost use Rattle.registry_desk.specs.Cache.{AreTextsOf, no_texts};
 ghost use Rattle.shared_log.specs.Calls.{KeepsLines, LogLines};
-ghost use Rattle.shared_registry.specs.Asks.{AppendsNothing, AppendsRequest, IsAsked};
-ghost use Rattle.shared_registry.specs.Lines.{fault_in};
+ghost use Rattle.shared_registry.specs.Asks.{AppendsNothing, AppendsRequest, IsLogAsked};
+ghost use Rattle.shared_registry.specs.Lines.{fault_in_call};
 ghost use Rattle.shared_registry.specs.Follows.{Follows, HasFollowed, IsLeft};
 ghost use Rattle.shared_registry.specs.declared.stop.ShareStop.TheVariants as stops;
 ghost use Rattle.shared_desk.specs.Answers.{Answers, IsUnanswered};
@@ -49,9 +49,9 @@ fn follow_first<S: Alter, L: Log>(
         → OnOk result (HasFollowed L.Log lines cursor.old registry.new cursor.new h) }
     ensures err { (lines : L → LogLines) → KeepsLines L.Log lines → (h : History) → Follows L.Log lines registry.old cursor.old h → HasCleanDisk (state_of registry.new)
         → IfErr result (IsLeft L.Log lines cursor.old registry.new cursor.new h) }
-    ensures notes { NotesForeign registry.old registry.new (fault_in result) }
+    ensures notes { NotesForeign registry.old registry.new (fault_in_call result) }
     ensures endures { Endures (state_of registry.old) (state_of registry.new) }
-    ensures asks { IsAsked L.Log AppendsNothing cursor.old.log cursor.new.log }
+    ensures asks { IsLogAsked L.Log AppendsNothing cursor.old.log cursor.new.log }
 {
     let before = cursor.next();
     match follow(registry, cursor) {
@@ -76,9 +76,9 @@ fn answer_after_following<S: Alter, L: Log>(
         → IfOk result (λ response. Answers L.Log lines cursor.old registry.new cursor.new h (Ok (messages.Query query.now)) response cache.new) }
     ensures err { (lines : L → LogLines) → KeepsLines L.Log lines → (h : History) → Follows L.Log lines registry.old cursor.old h → HasCleanDisk (state_of registry.new)
         → IfErr result (IsUnanswered L.Log lines cursor.old registry.new cursor.new h (Ok (messages.Query query.now))) }
-    ensures notes { NotesForeign registry.old registry.new (fault_in result) }
+    ensures notes { NotesForeign registry.old registry.new (fault_in_call result) }
     ensures endures { Endures (state_of registry.old) (state_of registry.new) }
-    ensures asks { IsAsked L.Log AppendsNothing cursor.old.log cursor.new.log }
+    ensures asks { IsLogAsked L.Log AppendsNothing cursor.old.log cursor.new.log }
 {
     if let Err(stop) = follow_first(registry, cursor, cache) {
         return Err(stop);
@@ -103,10 +103,10 @@ fn act_on_order<S: Alter, L: Log>(
         → IfOk result (λ response. Answers L.Log lines cursor.old registry.new cursor.new h (Ok (messages.Request request.now)) response cache.new) }
     ensures err { (lines : L → LogLines) → KeepsLines L.Log lines → (h : History) → Follows L.Log lines registry.old cursor.old h → HasCleanDisk (state_of registry.new)
         → IfErr result (IsLeft L.Log lines cursor.old registry.new cursor.new h) }
-    ensures notes { NotesForeign registry.old registry.new (fault_in result) }
+    ensures notes { NotesForeign registry.old registry.new (fault_in_call result) }
     ensures endures { Endures (state_of registry.old) (state_of registry.new) }
     ensures asks { (lines : L → LogLines) → KeepsLines L.Log lines → (h : History) → Follows L.Log lines registry.old cursor.old h → HasCleanDisk (state_of registry.new)
-        → IsAsked L.Log (AppendsRequest (lines cursor.new.log) h request.now) cursor.old.log cursor.new.log }
+        → IsLogAsked L.Log (AppendsRequest (lines cursor.new.log) h request.now) cursor.old.log cursor.new.log }
 {
     let before = cursor.next();
     match act(registry, cursor, request) {
@@ -134,10 +134,10 @@ fn answer_message<S: Alter, L: Log>(
         → IfOk result (λ response. Answers L.Log lines cursor.old registry.new cursor.new h (Ok message.now) response cache.new) }
     ensures err { (lines : L → LogLines) → KeepsLines L.Log lines → (h : History) → Follows L.Log lines registry.old cursor.old h → HasCleanDisk (state_of registry.new)
         → IfErr result (IsUnanswered L.Log lines cursor.old registry.new cursor.new h (Ok message.now)) }
-    ensures notes { NotesForeign registry.old registry.new (fault_in result) }
+    ensures notes { NotesForeign registry.old registry.new (fault_in_call result) }
     ensures endures { Endures (state_of registry.old) (state_of registry.new) }
     ensures asks { (lines : L → LogLines) → KeepsLines L.Log lines → (h : History) → Follows L.Log lines registry.old cursor.old h → HasCleanDisk (state_of registry.new)
-        → IsAsked L.Log (AppendsOrder (lines cursor.new.log) h (Ok message.now)) cursor.old.log cursor.new.log }
+        → IsLogAsked L.Log (AppendsOrder (lines cursor.new.log) h (Ok message.now)) cursor.old.log cursor.new.log }
 {
     match message {
         Message::Query(query) => answer_after_following(alloc, registry, cursor, cache, query),
@@ -173,10 +173,10 @@ pub(crate) fn answer<S: Alter, L: Log>(
     ensures refused { IfErr said.now (λ refusal. IfOk result (λ response. response ≡ refusal_response refusal) × IfErr result (λ stop. stop ≡ stops.NoMemory) × (registry.new ≡ registry.old) × (cursor.new ≡ cursor.old)) }
     // An order or a query gets no response over a poisoned registry.
     ensures when_poisoned { is_poisoned registry.old ≡ true → OnOk said.now ((result ≡ Err (ShareStop.Registry Fault.Poisoned)) × (registry.new ≡ registry.old) × (cursor.new ≡ cursor.old)) }
-    ensures notes { NotesForeign registry.old registry.new (fault_in result) }
+    ensures notes { NotesForeign registry.old registry.new (fault_in_call result) }
     ensures endures { Endures (state_of registry.old) (state_of registry.new) }
     ensures asks { (lines : L → LogLines) → KeepsLines L.Log lines → (h : History) → Follows L.Log lines registry.old cursor.old h → HasCleanDisk (state_of registry.new)
-        → IsAsked L.Log (AppendsOrder (lines cursor.new.log) h said.now) cursor.old.log cursor.new.log }
+        → IsLogAsked L.Log (AppendsOrder (lines cursor.new.log) h said.now) cursor.old.log cursor.new.log }
 {
     match said {
         Ok(message) => answer_message(alloc, registry, cursor, cache, message),

@@ -11,7 +11,7 @@ ghost use Rattle.registry_http.specs.Responses.{unavailable_response};
 ghost use Rattle.registry_desk.specs.Cache.{AreTextsOf, cache_after};
 ghost use Rattle.registry_desk.specs.Serving.{Sends};
 ghost use Rattle.shared_log.specs.Calls.{KeepsLines, LogLines};
-ghost use Rattle.shared_registry.specs.Asks.{IsAsked};
+ghost use Rattle.shared_registry.specs.Asks.{IsLogAsked};
 ghost use Rattle.shared_registry.specs.Follows.{Follows};
 ghost use Rattle.shared_desk.specs.Asks.{AppendsOrderIn};
 ghost use Rattle.shared_desk.specs.Refusals.{fault_behind, unavailable_for};
@@ -110,7 +110,7 @@ pub(crate) fn serve_message<R: Source, W: Sink, S: Alter, L: Log>(
         → IsServedBeside L.Log lines cursor.old registry.new cursor.new h bytes response cache.new turn.stop)
         × (is_poisoned registry.old ≡ true → IsTurnedAway bytes response turn.stop × (registry.new ≡ registry.old) × (cursor.new ≡ cursor.old))
         × ((lines : L → LogLines) → KeepsLines L.Log lines → (h : History) → Follows L.Log lines registry.old cursor.old h → HasCleanDisk (state_of registry.new)
-        → IsAsked L.Log (AppendsOrderIn (lines cursor.new.log) h bytes) cursor.old.log cursor.new.log)) }
+        → IsLogAsked L.Log (AppendsOrderIn (lines cursor.new.log) h bytes) cursor.old.log cursor.new.log)) }
     ensures notes { NotesForeign registry.old registry.new (fault_behind (stop_behind result)) }
     ensures read { OnErr result (FailsAfter (R.remaining source.old) (R.remaining source.new) (R.failures source.old) (R.failures source.new) IsIncomplete × (sink.new ≡ sink.old) × (registry.new ≡ registry.old) × (cursor.new ≡ cursor.old) × (cache.new ≡ cache.old)) }
     ensures kept { OnOk result (R.failures source.new ≡ R.failures source.old) }

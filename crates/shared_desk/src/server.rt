@@ -7,7 +7,7 @@ ghost use Rattle.registry_store.specs.Promise.{Endures, NotesForeign, is_poisone
 ghost use Rattle.registry_desk.specs.Cache.{AreTextsOf};
 ghost use Rattle.registry_desk.specs.Server.{Visit, IsVisit, HaveVisited, status_of};
 ghost use Rattle.shared_log.specs.Calls.{KeepsLines, LogLines};
-ghost use Rattle.shared_registry.specs.Asks.{IsAsked};
+ghost use Rattle.shared_registry.specs.Asks.{IsLogAsked};
 ghost use Rattle.shared_registry.specs.Follows.{Follows};
 ghost use Rattle.shared_desk.specs.Asks.{AppendsOrderIn, AppendsOrdersIn};
 ghost use Rattle.shared_desk.specs.Refusals.{fault_behind};
@@ -81,7 +81,7 @@ fn serve_beside<C: Connections, S: Alter, L: Log>(
         → EndsBeside L.Log lines cursor.old registry.new cursor.new h visit cache.new (stop_in result))
         × (is_poisoned registry.old ≡ true → IsTurnedAwayAt visit × (registry.new ≡ registry.old) × (cursor.new ≡ cursor.old))
         × ((lines : L → LogLines) → KeepsLines L.Log lines → (h : History) → Follows L.Log lines registry.old cursor.old h → HasCleanDisk (state_of registry.new)
-        → IsAsked L.Log (AppendsOrderIn (lines cursor.new.log) h visit.bytes) cursor.old.log cursor.new.log)) }
+        → IsLogAsked L.Log (AppendsOrderIn (lines cursor.new.log) h visit.bytes) cursor.old.log cursor.new.log)) }
     ensures notes { NotesForeign registry.old registry.new (fault_behind (stop_in result)) }
     ensures none { result ≡ Err SharedStop.Connections → C.fails connections.old connections.new × (registry.new ≡ registry.old) × (cursor.new ≡ cursor.old) }
     ensures endures { Endures (state_of registry.old) (state_of registry.new) }
@@ -142,7 +142,7 @@ pub fn serve_shared<C: Connections, S: Alter, L: Log>(
         → EndsOver L.Log lines cursor.old registry.new cursor.new h visits (stop_in result))
         × (is_poisoned registry.old ≡ true → All IsTurnedAwayAt visits × (registry.new ≡ registry.old) × (cursor.new ≡ cursor.old))
         × ((lines : L → LogLines) → KeepsLines L.Log lines → (h : History) → Follows L.Log lines registry.old cursor.old h → HasCleanDisk (state_of registry.new)
-        → IsAsked L.Log (AppendsOrdersIn (lines cursor.new.log) h visits) cursor.old.log cursor.new.log) }
+        → IsLogAsked L.Log (AppendsOrdersIn (lines cursor.new.log) h visits) cursor.old.log cursor.new.log) }
     // Whatever the store holds: the rows of no history are noted.
     ensures notes { NotesForeign registry.old registry.new (fault_behind (stop_in result)) }
     ensures endures { Endures (state_of registry.old) (state_of registry.new) }

@@ -28,7 +28,7 @@ use Rattle.shared_log.specs.declared.log.Log.{Ghosts as LogGhosts}
 use Rattle.shared_registry.specs.declared.cursor.AppendFault.TheVariants as faults
 use Rattle.shared_registry.specs.declared.cursor.Cursor.{Cursor}
 use Rattle.shared_registry.specs.Cursors.{HasNoNewLine, WasShown, accepted_as}
-use Rattle.shared_registry.specs.Follows.{Follows, FollowsLater, HasActed, HasFailed, HasFollowed, HasGoneOn, HasTried, HasTurned, IsAnswered, LeavesOfMachine, WasWhole}
+use Rattle.shared_registry.specs.Follows.{Follows, FollowsLater, HasActed, HasFailed, HasFollowed, HasGoneOn, HasTried, HasTurned, IsAnsweredOverLog, LeavesOfMachine, WasWhole}
 use Rattle.shared_registry.specs.Lines.{GoesOver}
 use Rattle.shared_registry.proofs.AskLemmas.{WasAskedIfNew}
 use Rattle.shared_registry.proofs.AppendLemmas.{line_grows, line_taken, no_line_grows, no_line_next, same_grows, took_line, was_whole}
@@ -86,8 +86,8 @@ module _ {S : Type 0} {g : Ghosts S} {L : Type 0} (l : LogGhosts L) (lines : L �
     grown = grows_on (lines start.log) (lines c.log) (lines c_new.log) so_far.grown more.grown;
   }
 
-  pub answered_later : (start : Cursor L) (it : Registry S g) (c : Cursor L) (new : Registry S g) (c_new : Cursor L) (h : History) (r : Request) (reply : Reply) → (so_far : HasGoneOn l lines start it c h) → IsAnswered l lines c new c_new so_far.now r reply
-      → IsAnswered l lines start new c_new h r reply
+  pub answered_later : (start : Cursor L) (it : Registry S g) (c : Cursor L) (new : Registry S g) (c_new : Cursor L) (h : History) (r : Request) (reply : Reply) → (so_far : HasGoneOn l lines start it c h) → IsAnsweredOverLog l lines c new c_new so_far.now r reply
+      → IsAnsweredOverLog l lines start new c_new h r reply
   answered_later start it c new c_new h r reply so_far answered = record {
     before = answered.before;
     leads = leads_on h so_far.now answered.before so_far.leads answered.leads;
@@ -99,7 +99,7 @@ module _ {S : Type 0} {g : Ghosts S} {L : Type 0} (l : LogGhosts L) (lines : L �
   -- ---- a reply
 
   -- the line was appended, so the history before it was the whole log
-  pub answered_now : (c : Cursor L) (new : Registry S g) (c_new : Cursor L) (h : History) (r : Request) (reply : Reply) → HasActed l lines c new c_new h r reply → c_new.next ≢ c.next → IsAnswered l lines c new c_new h r reply
+  pub answered_now : (c : Cursor L) (new : Registry S g) (c_new : Cursor L) (h : History) (r : Request) (reply : Reply) → HasActed l lines c new c_new h r reply → c_new.next ≢ c.next → IsAnsweredOverLog l lines c new c_new h r reply
   answered_now c new c_new h r reply acted moved = record { before = h; leads = leads_nowhere h; whole = acted.whole moved; reply_is = acted.reply_is; follows = acted.follows }
 
   pub turned_now : (c : Cursor L) (new : Registry S g) (c_new : Cursor L) (h : History) (r : Request) (tried : Option Reply) → HasTried l lines c new c_new h r tried → (tried ≡ None → c_new.next ≡ c.next) → c_new.next ≢ c.next
@@ -109,7 +109,7 @@ module _ {S : Type 0} {g : Ghosts S} {L : Type 0} (l : LogGhosts L) (lines : L �
 
   -- no line was appended, and the log had no others: it was the record of the history that stays
   pub answered_then : (old : Registry S g) (c : Cursor L) (mid : Registry S g) (c_mid : Cursor L) (new : Registry S g) (c_new : Cursor L) (h : History) (r : Request) (reply : Reply) → Follows l lines old c h → HasActed l lines c mid c_mid h r reply
-      → c_mid.next ≡ c.next → HasFollowed l lines c_mid new c_new (after_one h r) → c_new.next ≤ c.next → IsAnswered l lines c new c_new h r reply
+      → c_mid.next ≡ c.next → HasFollowed l lines c_mid new c_new (after_one h r) → c_new.next ≤ c.next → IsAnsweredOverLog l lines c new c_new h r reply
   answered_then old c mid c_mid new c_new h r reply follows acted same followed stays =
       let here : c.next ≡ length (record_of h) = follows.next in
       let there : c_mid.next ≡ length (record_of (after_one h r)) = acted.follows.next in

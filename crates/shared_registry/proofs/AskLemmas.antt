@@ -18,7 +18,7 @@ use Rattle.shared_log.specs.declared.log.Log.{Ghosts as LogGhosts}
 use Rattle.shared_registry.specs.declared.cursor.AppendFault.{AppendFault}
 use Rattle.shared_registry.specs.declared.cursor.AppendFault.TheVariants as faults
 use Rattle.shared_registry.specs.declared.cursor.Cursor.{Cursor}
-use Rattle.shared_registry.specs.Asks.{AppendsLines, AppendsNothing, AppendsRequest, AreCalls, IsAsked, IsCall}
+use Rattle.shared_registry.specs.Asks.{AppendsLines, AppendsNothing, AppendsRequest, AreCalls, IsLogAsked, IsCall}
 use Rattle.shared_registry.proofs.AppendLemmas.{append_grows, did_not_take, took_line}
 use Rattle.shared_registry.proofs.FollowLemmas.{at_instant_grows, grows_none, grows_on, still_of}
 use Rattle.shared_registry.proofs.LineLemmas.{leads_nowhere, leads_on}
@@ -29,41 +29,41 @@ abbrev pub WasAskedIfNew : {L : Type 0} → Cursor L → Cursor L → History �
 WasAskedIfNew c c_new h r Heard = (c_new ≡ c) ⊎ ((deed : Deed) × (verdict h r ≡ New deed) × Heard deed)
 
 module _ {L : Type 0} (l : LogGhosts L) (May : ℕ → List ℕ → Type 0) where
-  pub asked_nothing : (a : L) → IsAsked l May a a
+  pub asked_nothing : (a : L) → IsLogAsked l May a a
   asked_nothing a = ([], refl)
 
   -- the same of a log that is left as it is
-  pub asked_to : (a b : L) → b ≡ a → IsAsked l May a b
-  asked_to a b same = subst (λ (x : L). IsAsked l May a x) (sym same) (asked_nothing a)
+  pub asked_to : (a b : L) → b ≡ a → IsLogAsked l May a b
+  asked_to a b same = subst (λ (x : L). IsLogAsked l May a x) (sym same) (asked_nothing a)
 
-  pub asked_once : (a b : L) → IsCall l May a b → IsAsked l May a b
+  pub asked_once : (a b : L) → IsCall l May a b → IsLogAsked l May a b
   asked_once a b call = (b ∷ [], (call, refl))
 
-  pub asked_read : (a b : L) (n : ℕ) (page : PageAnswer) → l.reads a b n page → IsAsked l May a b
+  pub asked_read : (a b : L) (n : ℕ) (page : PageAnswer) → l.reads a b n page → IsLogAsked l May a b
   asked_read a b n page reads = asked_once a b (inl (n, page, reads))
 
-  pub asked_in_vain : (a b : L) → l.fails a b → IsAsked l May a b
+  pub asked_in_vain : (a b : L) → l.fails a b → IsLogAsked l May a b
   asked_in_vain a b fails = asked_once a b (inr (inr fails))
 
-  calls_then : (a b c : L) (states : List L) → AreCalls l May a states b → IsAsked l May b c → IsAsked l May a c
-  calls_then a b c [] same more = subst (λ (x : L). IsAsked l May x c) same more
+  calls_then : (a b c : L) (states : List L) → AreCalls l May a states b → IsLogAsked l May b c → IsLogAsked l May a c
+  calls_then a b c [] same more = subst (λ (x : L). IsLogAsked l May x c) same more
   calls_then a b c (middle ∷ states) calls more =
       let rest = calls_then middle b c states calls.1 more in
       (middle ∷ rest.0, (calls.0, rest.1))
 
   -- calls and then more calls
-  pub asked_then : (a b c : L) → IsAsked l May a b → IsAsked l May b c → IsAsked l May a c
+  pub asked_then : (a b c : L) → IsLogAsked l May a b → IsLogAsked l May b c → IsLogAsked l May a c
   asked_then a b c one more = calls_then a b c one.0 one.1 more
 
   -- a line was to be appended
-  pub asked_line : (c c_new : Cursor L) (line : List ℕ) → May c.next line → HasLine l c c_new line → IsAsked l May c.log c_new.log
+  pub asked_line : (c c_new : Cursor L) (line : List ℕ) → May c.next line → HasLine l c c_new line → IsLogAsked l May c.log c_new.log
   asked_line c c_new line may has =
       elim has.told [
         | inl is ↦ asked_once c.log c_new.log (inr (inl (c.next, line, answers.Appended, may, is)))
         | inr is ↦ asked_once c.log c_new.log (inr (inl (c.next, line, answers.Taken line, may, is)))
       ]
 
-  pub asked_no_line : (c c_new : Cursor L) (line : List ℕ) (fault : AppendFault) → May c.next line → HasNoNewLine l c c_new line fault → IsAsked l May c.log c_new.log
+  pub asked_no_line : (c c_new : Cursor L) (line : List ℕ) (fault : AppendFault) → May c.next line → HasNoNewLine l c c_new line fault → IsLogAsked l May c.log c_new.log
   asked_no_line c c_new line faults.Taken may it = asked_once c.log c_new.log (inr (inl (c.next, line, answers.Taken it.0.0, may, it.0.1)))
   asked_no_line c c_new line faults.Behind may it = asked_once c.log c_new.log (inr (inl (c.next, line, answers.Behind, may, it.0)))
   asked_no_line c c_new line faults.Full may it = asked_to c.log c_new.log (ap (λ (d : Cursor L). d.log) it.0)
@@ -93,23 +93,23 @@ module _ {L : Type 0} (l : LogGhosts L) (May Might : ℕ → List ℕ → Type 0
   calls_weaker a b (middle ∷ states) calls = (call_weaker a middle calls.0, calls_weaker middle b states calls.1)
 
   -- where more may be appended
-  pub asked_weaker : (a b : L) → IsAsked l May a b → IsAsked l Might a b
+  pub asked_weaker : (a b : L) → IsLogAsked l May a b → IsLogAsked l Might a b
   asked_weaker a b it = (it.0, calls_weaker a b it.0 it.1)
 
 -- reads append nothing, so they append nothing else
-pub asked_anyway : {L : Type 0} (l : LogGhosts L) (May : ℕ → List ℕ → Type 0) (a b : L) → IsAsked l AppendsNothing a b → IsAsked l May a b
+pub asked_anyway : {L : Type 0} (l : LogGhosts L) (May : ℕ → List ℕ → Type 0) (a b : L) → IsLogAsked l AppendsNothing a b → IsLogAsked l May a b
 asked_anyway l May a b it = asked_weaker l AppendsNothing May (λ n line never. absurd never) a b it
 
 module _ {L : Type 0} (l : LogGhosts L) (these : LogLines) (start c c_new : Cursor L) (i : ℕ) (line : List ℕ) (counted : c.next ≡ start.next + i) (lt : i < length these) (here : line ≡ get_or these i line)
-    (so_far : IsAsked l (AppendsLines these start.next) start.log c.log) where
+    (so_far : IsLogAsked l (AppendsLines these start.next) start.log c.log) where
   is_next : AppendsLines these start.next c.next line
   is_next = (i, counted, slice_get-get_or these i line lt ∙ ap Some (sym here))
 
   -- the next of these lines was to be appended
-  pub asked_next : HasLine l c c_new line → IsAsked l (AppendsLines these start.next) start.log c_new.log
+  pub asked_next : HasLine l c c_new line → IsLogAsked l (AppendsLines these start.next) start.log c_new.log
   asked_next has = asked_then l (AppendsLines these start.next) start.log c.log c_new.log so_far (asked_line l (AppendsLines these start.next) c c_new line is_next has)
 
-  pub asked_no_next : (fault : AppendFault) → HasNoLine l c c_new line fault → IsAsked l (AppendsLines these start.next) start.log c_new.log
+  pub asked_no_next : (fault : AppendFault) → HasNoLine l c c_new line fault → IsLogAsked l (AppendsLines these start.next) start.log c_new.log
   asked_no_next fault it = asked_then l (AppendsLines these start.next) start.log c.log c_new.log so_far (asked_no_line l (AppendsLines these start.next) c c_new line fault is_next (did_not_take l c c_new line fault it))
 
 -- ---- the line of a request
@@ -125,11 +125,11 @@ module _ {L : Type 0} (l : LogGhosts L) (lines : L → LogLines) (kept : KeepsLi
   calls_grow May a b (middle ∷ states) calls = grows_on (lines a) (lines middle) (lines b) (call_grows May a middle calls.0) (calls_grow May middle b states calls.1)
 
   -- a log that was asked has grown
-  pub asked_grows : (May : ℕ → List ℕ → Type 0) (a b : L) → IsAsked l May a b → Grows (lines a) (lines b)
+  pub asked_grows : (May : ℕ → List ℕ → Type 0) (a b : L) → IsLogAsked l May a b → Grows (lines a) (lines b)
   asked_grows May a b it = calls_grow May a b it.0 it.1
 
   -- calls for a request, and then more calls for it, over a later history
-  pub asked_later : (h x : History) (r : Request) (a b c : L) → LeadsTo h x → IsAsked l (AppendsRequest (lines b) h r) a b → IsAsked l (AppendsRequest (lines c) x r) b c → IsAsked l (AppendsRequest (lines c) h r) a c
+  pub asked_later : (h x : History) (r : Request) (a b c : L) → LeadsTo h x → IsLogAsked l (AppendsRequest (lines b) h r) a b → IsLogAsked l (AppendsRequest (lines c) x r) b c → IsLogAsked l (AppendsRequest (lines c) h r) a c
   asked_later h x r a b c leads one more =
       let May = AppendsRequest (lines c) h r in
       let grown = asked_grows (AppendsRequest (lines c) x r) b c more in
@@ -138,18 +138,18 @@ module _ {L : Type 0} (l : LogGhosts L) (lines : L → LogLines) (kept : KeepsLi
       (asked_weaker l (AppendsRequest (lines c) x r) May (λ n line it. appends_earlier (lines c) (lines c) h x r leads (grows_none (lines c)) n line it) b c more)
 
   -- calls for a request, and then reads
-  pub asked_and_read : (h : History) (r : Request) (a b c : L) → IsAsked l (AppendsRequest (lines b) h r) a b → IsAsked l AppendsNothing b c → IsAsked l (AppendsRequest (lines c) h r) a c
+  pub asked_and_read : (h : History) (r : Request) (a b c : L) → IsLogAsked l (AppendsRequest (lines b) h r) a b → IsLogAsked l AppendsNothing b c → IsLogAsked l (AppendsRequest (lines c) h r) a c
   asked_and_read h r a b c one reads = asked_later h h r a b c (leads_nowhere h) one (asked_anyway l (AppendsRequest (lines c) h r) b c reads)
 
   module _ (c c_new : Cursor L) (h : History) (r : Request) (of : IsOfMachine (lines c.log) h) (at : c.next ≡ length (record_of h)) where
     abbrev pub Asks : Type 0
-    Asks = IsAsked l (AppendsRequest (lines c_new.log) h r) c.log c_new.log
+    Asks = IsLogAsked l (AppendsRequest (lines c_new.log) h r) c.log c_new.log
 
     abbrev May : Deed → ℕ → List ℕ → Type 0
     May deed n line = (n ≡ c.next) × (line ≡ accepted_line (accepted_as r (act_text deed.act)))
 
     -- the next line is that of a request which is new
-    asks_new : (deed : Deed) → verdict h r ≡ New deed → IsAsked l (May deed) c.log c_new.log → Asks
+    asks_new : (deed : Deed) → verdict h r ≡ New deed → IsLogAsked l (May deed) c.log c_new.log → Asks
     asks_new deed new it =
         let there = still_of (lines c.log) (lines c_new.log) h of (asked_grows (May deed) c.log c_new.log it) in
         asked_weaker l (May deed) (AppendsRequest (lines c_new.log) h r)

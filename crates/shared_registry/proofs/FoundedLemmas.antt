@@ -15,7 +15,7 @@ use Rattle.shared_log.specs.declared.answers.PageAnswer.{PageAnswer}
 use Rattle.shared_log.specs.declared.log.Log.{Ghosts as LogGhosts}
 use Rattle.shared_registry.specs.declared.stop.ShareStop.{ShareStop}
 use Rattle.shared_registry.specs.declared.stop.ShareStop.TheVariants as stops
-use Rattle.shared_registry.specs.Founded.{BeginsWith, HasNoFounding, HasNoFoundingLine, IsOfNoFounding}
+use Rattle.shared_registry.specs.Founded.{BeginsWithFounding, HasNoFounding, HasNoFoundingLine, IsOfNoFounding}
 use Rattle.shared_registry.proofs.FollowLemmas.{at_instant_grows, grows_none}
 
 -- ---- a line
@@ -82,7 +82,7 @@ module _ {L : Type 0} (l : LogGhosts L) (lines : L → LogLines) where
   page_unfounded old new page reads at stops.Full it = absurd it
 
   module _ (old new : L) (page : PageAnswer) (reads : l.reads old new 0 page) (at : AtSomeInstant (lines old) (lines new) (IsLogPage 0 page)) where
-    pub read_founded : (result : Result Founding ShareStop) → IfOk result (λ founding. BeginsWith founding page.lines) → IfOk result (λ founding. AtSomeInstant (lines old) (lines new) (BeginsWith founding))
+    pub read_founded : (result : Result Founding ShareStop) → IfOk result (λ founding. BeginsWithFounding founding page.lines) → IfOk result (λ founding. AtSomeInstant (lines old) (lines new) (BeginsWithFounding founding))
     read_founded (Ok founding) is = page_begins (lines old) (lines new) page (founding_line founding) at is
     read_founded (Err stop) is = tt
 

@@ -31,7 +31,7 @@ use Rattle.shared_registry.specs.declared.stop.ShareStop.TheVariants as stops
 use Rattle.shared_registry.specs.Asks.{AppendsLines, AppendsRecord}
 use Rattle.shared_registry.specs.Cursors.{HasLine, HasNoLine}
 use Rattle.shared_registry.specs.Follows.{Follows}
-use Rattle.shared_registry.specs.Records.{HasPassed, IsApart, IsNextPart, IsOfReading, IsOtherPage, IsUnshared, Matches}
+use Rattle.shared_registry.specs.Records.{HasPassed, IsApart, IsNextPart, IsStopOfReading, IsOtherPage, IsUnshared, Matches}
 use Rattle.shared_registry.proofs.AppendLemmas.{did_not_take, line_taken, no_line_grows}
 use Rattle.shared_registry.proofs.FollowLemmas.{earlier_start, grows_none, grows_on}
 use Rattle.shared_registry.proofs.LineLemmas.{long_front, take_next}
@@ -242,7 +242,7 @@ module _ {L : Type 0} (l : LogGhosts L) (lines : L → LogLines) (h : History) w
   page_other c now part page passed is some at reads stops.NoMemory it = absurd it
 
   -- why lines of the record were not read, before a call of the log
-  pub unread : (c : L) (stop : ShareStop) → IsOfReading stop → IsUnshared l lines h c c stop
+  pub unread : (c : L) (stop : ShareStop) → IsStopOfReading stop → IsUnshared l lines h c c stop
   unread c (stops.Registry fault) it = it
   unread c stops.NoMemory it = grows_none (lines c)
   unread c (stops.Log fault) it = absurd it

@@ -37,7 +37,7 @@ use Rattle.shared_registry.specs.declared.expecting.Unexpected.TheVariants.{NoMe
 use Rattle.shared_registry.specs.declared.stop.ShareStop.{ShareStop}
 use Rattle.shared_registry.specs.declared.stop.ShareStop.TheVariants as stops
 use Rattle.shared_registry.specs.Cursors.{accepted_as}
-use Rattle.shared_registry.specs.Lines.{Continues, ContinuesBy, GoesOver, IsExpected, IsStoppedAt, IsStoppedBefore, IsStoppedIn, IsUnexpected, LeadsToLine, MayHaveGoneOn, stop_for}
+use Rattle.shared_registry.specs.Lines.{Continues, ContinuesBy, GoesOver, IsExpected, IsStoppedAtLine, IsStoppedBefore, IsStoppedIn, IsUnexpected, LeadsToLine, MayHaveGoneOn, stop_for}
 
 -- ---- one line
 
@@ -118,7 +118,7 @@ module _ {S : Type 0} {g : Ghosts S} (new : Registry S g) where
     stopped = subst (λ (rest : LogLines). IsStoppedBefore new x rest now stop) (sym (drop-cons lines i line lt ∙ ap (λ (l : List ℕ). l ∷ drop (suc i) lines) (sym is))) (at (drop (suc i) lines));
   }
 
-  pub before_line : (x : History) (line : List ℕ) (others : LogLines) (n : ℕ) (stop : ShareStop) → IsStoppedAt new x line (Continues x line) n stop → IsStoppedBefore new x (line ∷ others) n stop
+  pub before_line : (x : History) (line : List ℕ) (others : LogLines) (n : ℕ) (stop : ShareStop) → IsStoppedAtLine new x line (Continues x line) n stop → IsStoppedBefore new x (line ∷ others) n stop
   before_line x line others n (stops.Registry fault) it = it
   before_line x line others n (stops.OtherRecord at) it = it
   before_line x line others n stops.NoMemory it = it
@@ -172,7 +172,7 @@ by_request h line accepted digest is none x it =
 
 -- what stopped a call is what stopped it for any line that leads on in more ways only if it does in these
 pub stopped_so : {S : Type 0} {g : Ghosts S} (new : Registry S g) (h : History) (line : List ℕ) (So Also : History → Type 0) (n : ℕ) → (((x : History) → ¬ So x) → (x : History) → ¬ Also x)
-    → (stop : ShareStop) → IsStoppedAt new h line So n stop → IsStoppedAt new h line Also n stop
+    → (stop : ShareStop) → IsStoppedAtLine new h line So n stop → IsStoppedAtLine new h line Also n stop
 stopped_so new h line So Also n none (stops.Registry fault) it = it
 stopped_so new h line So Also n none (stops.OtherRecord at) it = (it.0, it.1, none it.2)
 stopped_so new h line So Also n none stops.NoMemory it = it
@@ -218,7 +218,7 @@ module _ (h : History) (r : Request) (old new : Expected) (fresh : old.is_it ≡
 
   -- a request that is not the expected one stops at its line
   pub unexpected : {S : Type 0} {g : Ghosts S} (it : Registry S g) (n : ℕ) (why : Unexpected) → WasAsked (λ deed. IsUnexpected old new r (act_text deed.act) why) → (text : List ℕ) → IsUnexpected old new r text why → Represents it h
-      → IsStoppedAt it h old.line.now (ContinuesBy h r old.line.now) n (stop_for why n)
+      → IsStoppedAtLine it h old.line.now (ContinuesBy h r old.line.now) n (stop_for why n)
   unexpected it n Other asked text missed now = (refl, now, has_other asked text missed)
   unexpected it n NoMemory asked text missed now = now
 

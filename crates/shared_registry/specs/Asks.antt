@@ -54,10 +54,10 @@ module _ {L : Type 0} (l : Ghosts L) (Appends : ℕ → List ℕ → Type 0) whe
   AreCalls old (middle ∷ states) new = IsCall old middle × AreCalls middle states new
 
   -- The log was asked by such calls alone. Since a call that is made may be answered, no other line is to be appended.
-  abbrev pub IsAsked : L → L → Type 0
-  IsAsked old new = (states : List L) × AreCalls old states new
+  abbrev pub IsLogAsked : L → L → Type 0
+  IsLogAsked old new = (states : List L) × AreCalls old states new
 
   -- the same of a call that gives the log back
   abbrev pub IsAskedFor : L → Result (Cursor L) (ShareStop × L) → Type 0
-  IsAskedFor old (Ok cursor) = IsAsked old cursor.log
-  IsAskedFor old (Err left) = IsAsked old left.1
+  IsAskedFor old (Ok cursor) = IsLogAsked old cursor.log
+  IsAskedFor old (Err left) = IsLogAsked old left.1

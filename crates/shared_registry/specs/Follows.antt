@@ -107,7 +107,7 @@ module _ {S : Type 0} {g : Ghosts S} {L : Type 0} (l : LogGhosts L) (lines : L â
     HasTried r (Some reply) = HasActed r reply
 
     -- A request got the reply of a history that was the whole log at some instant of the call, and was acted on after it.
-    pub record IsAnswered (r : Request) (reply : Reply) : Type 0 where
+    pub record IsAnsweredOverLog (r : Request) (reply : Reply) : Type 0 where
       pub before : History
       pub leads : LeadsTo h before
       pub whole : WasWhole (lines c.log) (lines c_new.log) before
@@ -124,4 +124,4 @@ module _ {S : Type 0} {g : Ghosts S} {L : Type 0} (l : LogGhosts L) (lines : L â
     -- a request was answered, or, without a reply, lines of the log were acted on
     abbrev pub HasTurned : Request â†’ Option Reply â†’ Type 0
     HasTurned r None = HasGoneOn
-    HasTurned r (Some reply) = IsAnswered r reply
+    HasTurned r (Some reply) = IsAnsweredOverLog r reply

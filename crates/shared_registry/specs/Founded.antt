@@ -11,8 +11,8 @@ use Rattle.shared_registry.specs.declared.stop.ShareStop.TheVariants as stops
 use Rattle.shared_registry.specs.Follows.{HasFailed}
 
 -- the first of the lines is that of this founding
-abbrev pub BeginsWith : Founding → LogLines → Type 0
-BeginsWith founding lines = slice_get lines 0 ≡ Some (founding_line founding)
+abbrev pub BeginsWithFounding : Founding → LogLines → Type 0
+BeginsWithFounding founding lines = slice_get lines 0 ≡ Some (founding_line founding)
 
 -- the line is that of no founding
 abbrev pub IsOfNoFounding : List ℕ → Type 0

@@ -66,19 +66,19 @@ stop_for reasons.Other n = stops.OtherRecord n
 stop_for reasons.NoMemory n = stops.NoMemory
 
 -- the fault of a registry that this is, if it is one
-abbrev pub fault_of : ShareStop → Option Fault
-fault_of (stops.Registry fault) = Some fault
-fault_of (stops.Log fault) = None
-fault_of (stops.OtherRecord n) = None
-fault_of stops.Ahead = None
-fault_of stops.Empty = None
-fault_of stops.Full = None
-fault_of stops.NoMemory = None
+abbrev pub fault_of_stop : ShareStop → Option Fault
+fault_of_stop (stops.Registry fault) = Some fault
+fault_of_stop (stops.Log fault) = None
+fault_of_stop (stops.OtherRecord n) = None
+fault_of_stop stops.Ahead = None
+fault_of_stop stops.Empty = None
+fault_of_stop stops.Full = None
+fault_of_stop stops.NoMemory = None
 
 -- the fault of a registry that stopped a call, if one did
-abbrev pub fault_in : {A : Type 0} → Result A ShareStop → Option Fault
-fault_in (Ok it) = None
-fault_in (Err stop) = fault_of stop
+abbrev pub fault_in_call : {A : Type 0} → Result A ShareStop → Option Fault
+fault_in_call (Ok it) = None
+fault_in_call (Err stop) = fault_of_stop stop
 
 module _ {S : Type 0} {g : Ghosts S} (new : Registry S g) where
   -- the registry represents the history to which the line leads
@@ -87,14 +87,14 @@ module _ {S : Type 0} {g : Ghosts S} (new : Registry S g) where
 
   -- What stopped the call at line n, and what is left: the history, or after a fault of the registry maybe the one to which the line leads.
   -- The line is refused only if it leads to no history so.
-  abbrev pub IsStoppedAt : History → List ℕ → (History → Type 0) → ℕ → ShareStop → Type 0
-  IsStoppedAt h line LeadsSo n (stops.Registry fault) = (poisoned_by new ≡ Some fault) × MayHaveGoneOn (state_of new) h line
-  IsStoppedAt h line LeadsSo n (stops.OtherRecord at) = (at ≡ n) × Represents new h × ((x : History) → ¬ LeadsSo x)
-  IsStoppedAt h line LeadsSo n stops.NoMemory = Represents new h
-  IsStoppedAt h line LeadsSo n (stops.Log fault) = ⊥
-  IsStoppedAt h line LeadsSo n stops.Ahead = ⊥
-  IsStoppedAt h line LeadsSo n stops.Empty = ⊥
-  IsStoppedAt h line LeadsSo n stops.Full = ⊥
+  abbrev pub IsStoppedAtLine : History → List ℕ → (History → Type 0) → ℕ → ShareStop → Type 0
+  IsStoppedAtLine h line LeadsSo n (stops.Registry fault) = (poisoned_by new ≡ Some fault) × MayHaveGoneOn (state_of new) h line
+  IsStoppedAtLine h line LeadsSo n (stops.OtherRecord at) = (at ≡ n) × Represents new h × ((x : History) → ¬ LeadsSo x)
+  IsStoppedAtLine h line LeadsSo n stops.NoMemory = Represents new h
+  IsStoppedAtLine h line LeadsSo n (stops.Log fault) = ⊥
+  IsStoppedAtLine h line LeadsSo n stops.Ahead = ⊥
+  IsStoppedAtLine h line LeadsSo n stops.Empty = ⊥
+  IsStoppedAtLine h line LeadsSo n stops.Full = ⊥
 
   -- the lines were acted on
   abbrev pub LeadsToLines : History → LogLines → Type 0
@@ -104,9 +104,9 @@ module _ {S : Type 0} {g : Ghosts S} (new : Registry S g) where
   abbrev pub IsStoppedBefore : History → LogLines → ℕ → ShareStop → Type 0
   IsStoppedBefore h [] n stop = ⊥
   IsStoppedBefore h (line ∷ others) n stops.Full = Represents new h × (n ≡ most_lines)
-  IsStoppedBefore h (line ∷ others) n (stops.Registry fault) = IsStoppedAt h line (Continues h line) n (stops.Registry fault)
-  IsStoppedBefore h (line ∷ others) n (stops.OtherRecord at) = IsStoppedAt h line (Continues h line) n (stops.OtherRecord at)
-  IsStoppedBefore h (line ∷ others) n stops.NoMemory = IsStoppedAt h line (Continues h line) n stops.NoMemory
+  IsStoppedBefore h (line ∷ others) n (stops.Registry fault) = IsStoppedAtLine h line (Continues h line) n (stops.Registry fault)
+  IsStoppedBefore h (line ∷ others) n (stops.OtherRecord at) = IsStoppedAtLine h line (Continues h line) n (stops.OtherRecord at)
+  IsStoppedBefore h (line ∷ others) n stops.NoMemory = IsStoppedAtLine h line (Continues h line) n stops.NoMemory
   IsStoppedBefore h (line ∷ others) n (stops.Log fault) = ⊥
   IsStoppedBefore h (line ∷ others) n stops.Ahead = ⊥
   IsStoppedBefore h (line ∷ others) n stops.Empty = ⊥

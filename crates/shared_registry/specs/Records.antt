@@ -19,14 +19,14 @@ pub record IsNextPart (record_lines : LogLines) (n : ℕ) (part : LogLines) : Ty
   pub none : part ≡ [] → rest ≡ []
 
 -- why lines of the record were not read
-abbrev pub IsOfReading : ShareStop → Type 0
-IsOfReading (stops.Registry fault) = (fault ≡ faults.Store) ⊎ (fault ≡ faults.NoMemory)
-IsOfReading stops.NoMemory = ⊤
-IsOfReading (stops.Log fault) = ⊥
-IsOfReading (stops.OtherRecord n) = ⊥
-IsOfReading stops.Ahead = ⊥
-IsOfReading stops.Empty = ⊥
-IsOfReading stops.Full = ⊥
+abbrev pub IsStopOfReading : ShareStop → Type 0
+IsStopOfReading (stops.Registry fault) = (fault ≡ faults.Store) ⊎ (fault ≡ faults.NoMemory)
+IsStopOfReading stops.NoMemory = ⊤
+IsStopOfReading (stops.Log fault) = ⊥
+IsStopOfReading (stops.OtherRecord n) = ⊥
+IsStopOfReading stops.Ahead = ⊥
+IsStopOfReading stops.Empty = ⊥
+IsStopOfReading stops.Full = ⊥
 
 -- the first lines of both lists are the same, this many, and these are all of ours, or the next one is another or is not there
 pub record Matches (ours theirs : LogLines) (count : ℕ) : Type 0 where

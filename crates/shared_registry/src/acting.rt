@@ -5,9 +5,9 @@ ghost use Rattle.sqlite.specs.State.{HasCleanDisk};
 ghost use Rattle.registry_rules.specs.History.{History};
 ghost use Rattle.registry_store.specs.Promise.{Endures, NotesForeign, is_poisoned, state_of};
 ghost use Rattle.shared_log.specs.Calls.{KeepsLines, LogLines};
-ghost use Rattle.shared_registry.specs.Asks.{AppendsRequest, IsAsked};
-ghost use Rattle.shared_registry.specs.Lines.{fault_in};
-ghost use Rattle.shared_registry.specs.Follows.{Follows, HasTried, HasTurned, IsAnswered, IsLeft};
+ghost use Rattle.shared_registry.specs.Asks.{AppendsRequest, IsLogAsked};
+ghost use Rattle.shared_registry.specs.Lines.{fault_in_call};
+ghost use Rattle.shared_registry.specs.Follows.{Follows, HasTried, HasTurned, IsAnsweredOverLog, IsLeft};
 
 use crate::cursor::{AppendFault, Cursor};
 use crate::following::follow;
@@ -29,8 +29,8 @@ fn try_to_act<S: Alter, L: Log>(
     ensures err { (lines : L → LogLines) → KeepsLines L.Log lines → (h : History) → Follows L.Log lines registry.old cursor.old h → HasCleanDisk (state_of registry.new)
         → IfErr result (IsLeft L.Log lines cursor.old registry.new cursor.new h) }
     ensures asks { (lines : L → LogLines) → KeepsLines L.Log lines → (h : History) → Follows L.Log lines registry.old cursor.old h → HasCleanDisk (state_of registry.new)
-        → IsAsked L.Log (AppendsRequest (lines cursor.new.log) h request.now) cursor.old.log cursor.new.log }
-    ensures notes { NotesForeign registry.old registry.new (fault_in result) }
+        → IsLogAsked L.Log (AppendsRequest (lines cursor.new.log) h request.now) cursor.old.log cursor.new.log }
+    ensures notes { NotesForeign registry.old registry.new (fault_in_call result) }
     ensures endures { Endures (state_of registry.old) (state_of registry.new) }
     ensures same_place { IfOk result (λ reply. reply ≡ None → cursor.new.next ≡ cursor.old.next) }
 {
@@ -58,8 +58,8 @@ fn act_and_look<S: Alter, L: Log>(
     ensures err { (lines : L → LogLines) → KeepsLines L.Log lines → (h : History) → Follows L.Log lines registry.old cursor.old h → HasCleanDisk (state_of registry.new)
         → IfErr result (IsLeft L.Log lines cursor.old registry.new cursor.new h) }
     ensures asks { (lines : L → LogLines) → KeepsLines L.Log lines → (h : History) → Follows L.Log lines registry.old cursor.old h → HasCleanDisk (state_of registry.new)
-        → IsAsked L.Log (AppendsRequest (lines cursor.new.log) h request.now) cursor.old.log cursor.new.log }
-    ensures notes { NotesForeign registry.old registry.new (fault_in result) }
+        → IsLogAsked L.Log (AppendsRequest (lines cursor.new.log) h request.now) cursor.old.log cursor.new.log }
+    ensures notes { NotesForeign registry.old registry.new (fault_in_call result) }
     ensures endures { Endures (state_of registry.old) (state_of registry.new) }
     ensures passes { IfOk result (λ reply. reply ≡ None → (cursor.old.next < cursor.new.next) × (cursor.new.next < 2 ^ 32)) }
 {
@@ -99,13 +99,13 @@ pub fn act<S: Alter, L: Log>(
 ) -> Result<Reply, ShareStop>
     ensures when_poisoned { is_poisoned registry.old ≡ true → (result ≡ Err (ShareStop.Registry Fault.Poisoned)) × (registry.new ≡ registry.old) × (cursor.new ≡ cursor.old) }
     ensures ok { (lines : L → LogLines) → KeepsLines L.Log lines → (h : History) → Follows L.Log lines registry.old cursor.old h → HasCleanDisk (state_of registry.new)
-        → IfOk result (IsAnswered L.Log lines cursor.old registry.new cursor.new h request.now) }
+        → IfOk result (IsAnsweredOverLog L.Log lines cursor.old registry.new cursor.new h request.now) }
     ensures err { (lines : L → LogLines) → KeepsLines L.Log lines → (h : History) → Follows L.Log lines registry.old cursor.old h → HasCleanDisk (state_of registry.new)
         → IfErr result (IsLeft L.Log lines cursor.old registry.new cursor.new h) }
     // No other line is appended than that of the request, with the reply that it gets.
     ensures asks { (lines : L → LogLines) → KeepsLines L.Log lines → (h : History) → Follows L.Log lines registry.old cursor.old h → HasCleanDisk (state_of registry.new)
-        → IsAsked L.Log (AppendsRequest (lines cursor.new.log) h request.now) cursor.old.log cursor.new.log }
-    ensures notes { NotesForeign registry.old registry.new (fault_in result) }
+        → IsLogAsked L.Log (AppendsRequest (lines cursor.new.log) h request.now) cursor.old.log cursor.new.log }
+    ensures notes { NotesForeign registry.old registry.new (fault_in_call result) }
     ensures endures { Endures (state_of registry.old) (state_of registry.new) }
 {
     if registry.is_poisoned() {

@@ -4,7 +4,7 @@ ghost use Rattle.std.specs.Prelude.{◌≡◌, None, IfErr, OnOk};
 ghost use Rattle.sqlite.specs.State.{HasCleanDisk};
 ghost use Rattle.registry_rules.specs.History.{History};
 ghost use Rattle.registry_store.specs.Promise.{Endures, NotesForeign, Represents, is_poisoned, state_of};
-ghost use Rattle.shared_registry.specs.Lines.{Continues, ContinuesBy, IsStoppedAt, LeadsToLine, fault_in, stop_for};
+ghost use Rattle.shared_registry.specs.Lines.{Continues, ContinuesBy, IsStoppedAtLine, LeadsToLine, fault_in_call, stop_for};
 
 use crate::line::line_of;
 use crate::stop::ShareStop;
@@ -76,8 +76,8 @@ fn act_if_expected<S: Alter>(
     request: &Request,
 ) -> Result<(), ShareStop>
     ensures goes_on { (h : History) → Represents registry.old h → HasCleanDisk (state_of registry.new) → OnOk result (LeadsToLine registry.new h line.now) }
-    ensures stopped { (h : History) → Represents registry.old h → HasCleanDisk (state_of registry.new) → IfErr result (IsStoppedAt registry.new h line.now (ContinuesBy h request.now line.now) n) }
-    ensures notes { NotesForeign registry.old registry.new (fault_in result) }
+    ensures stopped { (h : History) → Represents registry.old h → HasCleanDisk (state_of registry.new) → IfErr result (IsStoppedAtLine registry.new h line.now (ContinuesBy h request.now line.now) n) }
+    ensures notes { NotesForeign registry.old registry.new (fault_in_call result) }
     ensures endures { Endures (state_of registry.old) (state_of registry.new) }
 {
     let mut expected = Expected {
@@ -107,8 +107,8 @@ fn act_on<S: Alter>(
     accepted: Accepted,
 ) -> Result<(), ShareStop>
     ensures goes_on { (h : History) → Represents registry.old h → HasCleanDisk (state_of registry.new) → OnOk result (LeadsToLine registry.new h line.now) }
-    ensures stopped { (h : History) → Represents registry.old h → HasCleanDisk (state_of registry.new) → IfErr result (IsStoppedAt registry.new h line.now (ContinuesBy h accepted.request line.now) n) }
-    ensures notes { NotesForeign registry.old registry.new (fault_in result) }
+    ensures stopped { (h : History) → Represents registry.old h → HasCleanDisk (state_of registry.new) → IfErr result (IsStoppedAtLine registry.new h line.now (ContinuesBy h accepted.request line.now) n) }
+    ensures notes { NotesForeign registry.old registry.new (fault_in_call result) }
     ensures endures { Endures (state_of registry.old) (state_of registry.new) }
 {
     act_if_expected(alloc, registry, n, line, &accepted.request)
@@ -128,8 +128,8 @@ pub(crate) fn act_on_line<S: Alter>(
     line: &Line,
 ) -> Result<(), ShareStop>
     ensures goes_on { (h : History) → Represents registry.old h → HasCleanDisk (state_of registry.new) → OnOk result (LeadsToLine registry.new h line.now) }
-    ensures stopped { (h : History) → Represents registry.old h → HasCleanDisk (state_of registry.new) → IfErr result (IsStoppedAt registry.new h line.now (Continues h line.now) n) }
-    ensures notes { NotesForeign registry.old registry.new (fault_in result) }
+    ensures stopped { (h : History) → Represents registry.old h → HasCleanDisk (state_of registry.new) → IfErr result (IsStoppedAtLine registry.new h line.now (Continues h line.now) n) }
+    ensures notes { NotesForeign registry.old registry.new (fault_in_call result) }
     ensures endures { Endures (state_of registry.old) (state_of registry.new) }
 {
     match record_line(alloc, line.as_bytes()) {

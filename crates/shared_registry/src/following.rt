@@ -5,8 +5,8 @@ ghost use Rattle.sqlite.specs.State.{HasCleanDisk};
 ghost use Rattle.registry_rules.specs.History.{History};
 ghost use Rattle.registry_store.specs.Promise.{Endures, NotesForeign, Represents, is_poisoned, state_of};
 ghost use Rattle.shared_log.specs.Calls.{KeepsLines, LogLines};
-ghost use Rattle.shared_registry.specs.Asks.{AppendsNothing, IsAsked};
-ghost use Rattle.shared_registry.specs.Lines.{IsStoppedIn, LeadsToLines, fault_in};
+ghost use Rattle.shared_registry.specs.Asks.{AppendsNothing, IsLogAsked};
+ghost use Rattle.shared_registry.specs.Lines.{IsStoppedIn, LeadsToLines, fault_in_call};
 ghost use Rattle.shared_registry.specs.Follows.{Follows, HasFollowed, HasFollowedPage, IsLeft};
 
 use crate::cursor::Cursor;
@@ -30,7 +30,7 @@ fn act_on_lines<S: Alter>(
     ensures passes { OnOk result (next.new ≡ next.old + length lines.now) }
     ensures small { next.new < 2 ^ 32 }
     ensures stopped { (h : History) → Represents registry.old h → HasCleanDisk (state_of registry.new) → IfErr result (IsStoppedIn registry.new h lines.now next.old next.new) }
-    ensures notes { NotesForeign registry.old registry.new (fault_in result) }
+    ensures notes { NotesForeign registry.old registry.new (fault_in_call result) }
     ensures endures { Endures (state_of registry.old) (state_of registry.new) }
 {
     // (a number that is read is less than 2^32)
@@ -56,9 +56,9 @@ fn read_and_follow<S: Alter, L: Log>(
         → IfOk result (HasFollowedPage L.Log lines cursor.old registry.new cursor.new h) }
     ensures err { (lines : L → LogLines) → KeepsLines L.Log lines → (h : History) → Follows L.Log lines registry.old cursor.old h → HasCleanDisk (state_of registry.new)
         → IfErr result (IsLeft L.Log lines cursor.old registry.new cursor.new h) }
-    ensures notes { NotesForeign registry.old registry.new (fault_in result) }
+    ensures notes { NotesForeign registry.old registry.new (fault_in_call result) }
     ensures endures { Endures (state_of registry.old) (state_of registry.new) }
-    ensures asks { IsAsked L.Log AppendsNothing cursor.old.log cursor.new.log }
+    ensures asks { IsLogAsked L.Log AppendsNothing cursor.old.log cursor.new.log }
     ensures passes { IfOk result (λ more. (cursor.old.next ≤ cursor.new.next) × (more ≡ true → cursor.old.next < cursor.new.next)) }
     ensures small { OnOk result (cursor.new.next < 2 ^ 32) }
 {
@@ -99,8 +99,8 @@ pub fn follow<S: Alter, L: Log>(
         → OnOk result (HasFollowed L.Log lines cursor.old registry.new cursor.new h) }
     ensures err { (lines : L → LogLines) → KeepsLines L.Log lines → (h : History) → Follows L.Log lines registry.old cursor.old h → HasCleanDisk (state_of registry.new)
         → IfErr result (IsLeft L.Log lines cursor.old registry.new cursor.new h) }
-    ensures asks { IsAsked L.Log AppendsNothing cursor.old.log cursor.new.log }
-    ensures notes { NotesForeign registry.old registry.new (fault_in result) }
+    ensures asks { IsLogAsked L.Log AppendsNothing cursor.old.log cursor.new.log }
+    ensures notes { NotesForeign registry.old registry.new (fault_in_call result) }
     ensures endures { Endures (state_of registry.old) (state_of registry.new) }
 {
     if registry.is_poisoned() {

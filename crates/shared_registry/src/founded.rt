@@ -3,8 +3,8 @@
 ghost use Rattle.std.specs.Prelude.{◌≡◌, ◌≢◌, IfErr, IfNone, IfOk, IfSome};
 ghost use Rattle.registry_wire.specs.Record.{founding_line};
 ghost use Rattle.shared_log.specs.Calls.{AtSomeInstant, KeepsLines, LogLines};
-ghost use Rattle.shared_registry.specs.Asks.{AppendsNothing, IsAsked};
-ghost use Rattle.shared_registry.specs.Founded.{BeginsWith, HasNoFounding, HasNoFoundingLine, IsOfNoFounding};
+ghost use Rattle.shared_registry.specs.Asks.{AppendsNothing, IsLogAsked};
+ghost use Rattle.shared_registry.specs.Founded.{BeginsWithFounding, HasNoFounding, HasNoFoundingLine, IsOfNoFounding};
 
 use crate::joining::line_at;
 use crate::stop::ShareStop;
@@ -42,7 +42,7 @@ fn founding_of(alloc: Global, line: &Line) -> Result<Option<Founding>, NoMemory>
 
 /// Returns the founding with whose line a page of a log begins. Its first line is that of the log.
 fn founding_in_page(alloc: Global, page: &[Line], more: bool) -> Result<Founding, ShareStop>
-    ensures ok { IfOk result (λ founding. BeginsWith founding page.now) }
+    ensures ok { IfOk result (λ founding. BeginsWithFounding founding page.now) }
     ensures err { IfErr result (HasNoFoundingLine page.now more) }
 {
     let Some(line) = line_at(page, 0) else {
@@ -67,9 +67,9 @@ fn founding_in_page(alloc: Global, page: &[Line], more: bool) -> Result<Founding
 /// `Empty` if the log has no line, and `OtherRecord` with the number 0 if the first is the line of no
 /// founding. `Log` if the call of the log got no answer. `NoMemory` if out of memory.
 pub fn read_founding<L: Log>(alloc: Global, log: &mut L) -> Result<Founding, ShareStop>
-    ensures ok { (lines : L → LogLines) → KeepsLines L.Log lines → IfOk result (λ founding. AtSomeInstant (lines log.old) (lines log.new) (BeginsWith founding)) }
+    ensures ok { (lines : L → LogLines) → KeepsLines L.Log lines → IfOk result (λ founding. AtSomeInstant (lines log.old) (lines log.new) (BeginsWithFounding founding)) }
     ensures err { (lines : L → LogLines) → KeepsLines L.Log lines → IfErr result (HasNoFounding L.Log lines log.old log.new) }
-    ensures asks { IsAsked L.Log AppendsNothing log.old log.new }
+    ensures asks { IsLogAsked L.Log AppendsNothing log.old log.new }
 {
     let page = match log.page(alloc, 0) {
         Ok(page) => page,

@@ -8,8 +8,8 @@ ghost use Rattle.registry_laws.specs.Records.{record_of};
 ghost use Rattle.registry_store.specs.Promise.{NotesForeign, Represents, is_poisoned, state_of};
 ghost use Rattle.registry_store.specs.Queries.{IsUntouched};
 ghost use Rattle.shared_log.specs.Calls.{Grows, KeepsLines, LogLines};
-ghost use Rattle.shared_registry.specs.Asks.{AppendsLines, AppendsNothing, AppendsRecord, IsAsked, IsAskedFor};
-ghost use Rattle.shared_registry.specs.Lines.{fault_in, fault_of};
+ghost use Rattle.shared_registry.specs.Asks.{AppendsLines, AppendsNothing, AppendsRecord, IsLogAsked, IsAskedFor};
+ghost use Rattle.shared_registry.specs.Lines.{fault_in_call, fault_of_stop};
 ghost use Rattle.shared_registry.specs.Cursors.{most_lines};
 ghost use Rattle.shared_registry.specs.Follows.{Follows};
 ghost use Rattle.shared_registry.specs.Records.{HasPassed, IsOtherPage, IsUnshared, Matches, stop_in};
@@ -104,9 +104,9 @@ fn compare_part<S: Alter, L: Log>(
     ensures err { (lines : L → LogLines) → KeepsLines L.Log lines → (h : History) → Represents registry.old h → HasValidFields h → HasPassed lines cursor.old h → HasCleanDisk (state_of registry.new)
         → IfErr result (IsUnshared L.Log lines h cursor.old.log cursor.new.log) }
     ensures untouched { IsUntouched registry.old registry.new }
-    ensures asks { IsAsked L.Log AppendsNothing cursor.old.log cursor.new.log }
+    ensures asks { IsLogAsked L.Log AppendsNothing cursor.old.log cursor.new.log }
     ensures when_poisoned { is_poisoned registry.old ≡ true → result ≡ Err (ShareStop.Registry Fault.Poisoned) }
-    ensures notes { NotesForeign registry.old registry.new (fault_in result) }
+    ensures notes { NotesForeign registry.old registry.new (fault_in_call result) }
     ensures passes { IfOk result (λ more. more ≡ true → cursor.old.next < cursor.new.next) }
     ensures small { OnOk result (cursor.new.next < 2 ^ 32) }
 {
@@ -140,9 +140,9 @@ fn compare<S: Alter, L: Log>(
     ensures err { (lines : L → LogLines) → KeepsLines L.Log lines → (h : History) → Represents registry.old h → HasValidFields h → HasPassed lines cursor.old h → HasCleanDisk (state_of registry.new)
         → IfErr result (IsUnshared L.Log lines h cursor.old.log cursor.new.log) }
     ensures untouched { IsUntouched registry.old registry.new }
-    ensures asks { IsAsked L.Log AppendsNothing cursor.old.log cursor.new.log }
+    ensures asks { IsLogAsked L.Log AppendsNothing cursor.old.log cursor.new.log }
     ensures when_poisoned { is_poisoned registry.old ≡ true → result ≡ Err (ShareStop.Registry Fault.Poisoned) }
-    ensures notes { NotesForeign registry.old registry.new (fault_in result) }
+    ensures notes { NotesForeign registry.old registry.new (fault_in_call result) }
 {
     loop {
         match compare_part(registry, cursor) {
@@ -159,8 +159,8 @@ fn append_lines<L: Log>(cursor: &mut Cursor<L>, lines: &[Line]) -> Result<(), Sh
         → OnOk result (HasPassed log cursor.new h × Grows (log cursor.old.log) (log cursor.new.log)) }
     ensures err { (log : L → LogLines) → KeepsLines L.Log log → (h : History) → (rest : LogLines) → drop cursor.old.next (record_of h) ≡ lines.now ++ rest → HasPassed log cursor.old h
         → IfErr result (IsUnshared L.Log log h cursor.old.log cursor.new.log) }
-    ensures kind { IfErr result (λ stop. fault_of stop ≡ None) }
-    ensures asks { IsAsked L.Log (AppendsLines lines.now cursor.old.next) cursor.old.log cursor.new.log }
+    ensures kind { IfErr result (λ stop. fault_of_stop stop ≡ None) }
+    ensures asks { IsLogAsked L.Log (AppendsLines lines.now cursor.old.next) cursor.old.log cursor.new.log }
     ensures never_ahead { result ≢ Err ShareStop.Ahead }
     ensures passes { OnOk result (cursor.new.next ≡ cursor.old.next + length lines.now) }
     ensures small { OnOk result (cursor.new.next < 2 ^ 32) }
@@ -190,9 +190,9 @@ fn append_part<S: Alter, L: Log>(
     ensures err { (lines : L → LogLines) → KeepsLines L.Log lines → (h : History) → Represents registry.old h → HasValidFields h → HasPassed lines cursor.old h → HasCleanDisk (state_of registry.new)
         → IfErr result (IsUnshared L.Log lines h cursor.old.log cursor.new.log) }
     ensures untouched { IsUntouched registry.old registry.new }
-    ensures asks { (h : History) → Represents registry.old h → HasValidFields h → HasCleanDisk (state_of registry.new) → IsAsked L.Log (AppendsRecord h) cursor.old.log cursor.new.log }
+    ensures asks { (h : History) → Represents registry.old h → HasValidFields h → HasCleanDisk (state_of registry.new) → IsLogAsked L.Log (AppendsRecord h) cursor.old.log cursor.new.log }
     ensures when_poisoned { is_poisoned registry.old ≡ true → result ≡ Err (ShareStop.Registry Fault.Poisoned) }
-    ensures notes { NotesForeign registry.old registry.new (fault_in result) }
+    ensures notes { NotesForeign registry.old registry.new (fault_in_call result) }
     ensures never_ahead { result ≢ Err ShareStop.Ahead }
     ensures passes { IfOk result (λ more. more ≡ true → cursor.old.next < cursor.new.next) }
     ensures small { OnOk result (cursor.new.next < 2 ^ 32) }
@@ -220,9 +220,9 @@ fn append_record<S: Alter, L: Log>(
     ensures err { (lines : L → LogLines) → KeepsLines L.Log lines → (h : History) → Represents registry.old h → HasValidFields h → HasPassed lines cursor.old h → HasCleanDisk (state_of registry.new)
         → IfErr result (IsUnshared L.Log lines h cursor.old.log cursor.new.log) }
     ensures untouched { IsUntouched registry.old registry.new }
-    ensures asks { (h : History) → Represents registry.old h → HasValidFields h → HasCleanDisk (state_of registry.new) → IsAsked L.Log (AppendsRecord h) cursor.old.log cursor.new.log }
+    ensures asks { (h : History) → Represents registry.old h → HasValidFields h → HasCleanDisk (state_of registry.new) → IsLogAsked L.Log (AppendsRecord h) cursor.old.log cursor.new.log }
     ensures when_poisoned { is_poisoned registry.old ≡ true → result ≡ Err (ShareStop.Registry Fault.Poisoned) }
-    ensures notes { NotesForeign registry.old registry.new (fault_in result) }
+    ensures notes { NotesForeign registry.old registry.new (fault_in_call result) }
     ensures never_ahead { result ≢ Err ShareStop.Ahead }
 {
     loop {
@@ -254,7 +254,7 @@ pub fn join<S: Alter, L: Log>(
     ensures untouched { IsUntouched registry.old registry.new }
     ensures asks { IsAskedFor L.Log AppendsNothing log result }
     ensures when_poisoned { is_poisoned registry.old ≡ true → stop_in result ≡ Err (ShareStop.Registry Fault.Poisoned) }
-    ensures notes { NotesForeign registry.old registry.new (fault_in (stop_in result)) }
+    ensures notes { NotesForeign registry.old registry.new (fault_in_call (stop_in result)) }
 {
     let mut cursor = Cursor {
         alloc,
@@ -287,7 +287,7 @@ pub fn share<S: Alter, L: Log>(
     // No other line is appended than those of the record, each under its number.
     ensures asks { (h : History) → Represents registry.old h → HasValidFields h → HasCleanDisk (state_of registry.new) → IsAskedFor L.Log (AppendsRecord h) log result }
     ensures when_poisoned { is_poisoned registry.old ≡ true → stop_in result ≡ Err (ShareStop.Registry Fault.Poisoned) }
-    ensures notes { NotesForeign registry.old registry.new (fault_in (stop_in result)) }
+    ensures notes { NotesForeign registry.old registry.new (fault_in_call (stop_in result)) }
     ensures never_ahead { IfErr result (λ e. e.0 ≢ ShareStop.Ahead) }
 {
     let mut cursor = Cursor {

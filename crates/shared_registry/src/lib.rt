@@ -25,7 +25,7 @@
 //! lines, `act` acts on them and begins again. So it does with a line that has the same bytes as the
 //! one just offered: an earlier append that seemed to fail has taken effect, and the request is then a
 //! repeat. The reply is that of the history of the whole log at some instant of the call, and the
-//! registry then follows the log with the request in it (`IsAnswered`). So no answer is older than one
+//! registry then follows the log with the request in it (`IsAnsweredOverLog`). So no answer is older than one
 //! that any machine gave before the call, and an acknowledged request is in the log.
 //!
 //! After a call without an answer (`Log`) nothing is committed, and the registry goes on. The log may
@@ -44,7 +44,7 @@
 //!
 //! # What is appended
 //!
-//! [`act`] appends no other line (`IsAsked`) than that of its request, if it is new: behind the record, and
+//! [`act`] appends no other line (`IsLogAsked`) than that of its request, if it is new: behind the record, and
 //! with the reply that the request gets (`AppendsRequest`). [`share`] appends those of the record, each under
 //! its number. [`follow`], [`join`] and [`read_founding`] append nothing.
 //!

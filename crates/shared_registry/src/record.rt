@@ -8,8 +8,8 @@ ghost use Rattle.registry_laws.specs.Records.{record_of};
 ghost use Rattle.registry_store.specs.Promise.{NotesForeign, Represents, is_poisoned, state_of};
 ghost use Rattle.registry_store.specs.Queries.{IsUntouched};
 ghost use Rattle.registry_wire.specs.Record.{accepted_line, founding_line};
-ghost use Rattle.shared_registry.specs.Lines.{fault_in};
-ghost use Rattle.shared_registry.specs.Records.{IsNextPart, IsOfReading};
+ghost use Rattle.shared_registry.specs.Lines.{fault_in_call};
+ghost use Rattle.shared_registry.specs.Records.{IsNextPart, IsStopOfReading};
 
 use crate::stop::ShareStop;
 use registry_rules::{Accepted, Founding};
@@ -48,11 +48,11 @@ fn line_alone(alloc: Global, founding: &Founding) -> Result<Lines, NoMemory>
 /// Returns the line of the founding of a registry.
 fn first_line<S: Alter>(alloc: Global, registry: &mut Registry<S>) -> Result<Lines, ShareStop>
     ensures ok { (h : History) → Represents registry.old h → HasCleanDisk (state_of registry.new) → IfOk result (λ lines. lines ≡ founding_line h.founding ∷ []) }
-    ensures err { (h : History) → Represents registry.old h → HasCleanDisk (state_of registry.new) → IfErr result IsOfReading }
+    ensures err { (h : History) → Represents registry.old h → HasCleanDisk (state_of registry.new) → IfErr result IsStopOfReading }
     ensures never_ahead { result ≢ Err ShareStop.Ahead }
     ensures when_poisoned { is_poisoned registry.old ≡ true → result ≡ Err (ShareStop.Registry Fault.Poisoned) }
     ensures untouched { IsUntouched registry.old registry.new }
-    ensures notes { NotesForeign registry.old registry.new (fault_in result) }
+    ensures notes { NotesForeign registry.old registry.new (fault_in_call result) }
 {
     let founding = match registry.first_founding() {
         Ok(founding) => founding,
@@ -72,11 +72,11 @@ pub(crate) fn record_part<S: Alter>(
     n: u32,
 ) -> Result<Lines, ShareStop>
     ensures ok { (h : History) → Represents registry.old h → HasValidFields h → HasCleanDisk (state_of registry.new) → IfOk result (λ part. IsNextPart (record_of h) n part) }
-    ensures err { (h : History) → Represents registry.old h → HasCleanDisk (state_of registry.new) → IfErr result IsOfReading }
+    ensures err { (h : History) → Represents registry.old h → HasCleanDisk (state_of registry.new) → IfErr result IsStopOfReading }
     ensures never_ahead { result ≢ Err ShareStop.Ahead }
     ensures when_poisoned { is_poisoned registry.old ≡ true → result ≡ Err (ShareStop.Registry Fault.Poisoned) }
     ensures untouched { IsUntouched registry.old registry.new }
-    ensures notes { NotesForeign registry.old registry.new (fault_in result) }
+    ensures notes { NotesForeign registry.old registry.new (fault_in_call result) }
 {
     let Some(before) = n.checked_sub(1) else {
         return first_line(alloc, registry);

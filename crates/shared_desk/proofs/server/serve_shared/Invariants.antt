@@ -5,7 +5,7 @@ use Rattle.registry_rules.specs.History.{History}
 use Rattle.registry_store.specs.Promise.{Endures, NotesForeign, is_poisoned, state_of}
 use Rattle.registry_desk.specs.Server.{Visit, HaveVisited}
 use Rattle.shared_log.specs.Calls.{KeepsLines, LogLines}
-use Rattle.shared_registry.specs.Asks.{IsAsked}
+use Rattle.shared_registry.specs.Asks.{IsLogAsked}
 use Rattle.shared_registry.specs.Follows.{Follows}
 use Rattle.shared_desk.specs.Asks.{AppendsOrdersIn}
 use Rattle.shared_desk.specs.Server.{IsTurnedAwayAt}
@@ -22,6 +22,6 @@ invariant-loop g l = record {
       × (length visits ≡ l.counter)
       × ((lines : g.row.L.Denot → LogLines) → KeepsLines g.L.Log lines → (h : History) → Follows g.L.Log lines l.initial.registry l.initial.cursor h → HasCleanDisk (state_of l.registry) → FollowsBeside g.L.Log lines l.initial.cursor h l.registry l.cursor l.cache visits)
       × (is_poisoned l.initial.registry ≡ true → All IsTurnedAwayAt visits × (l.registry ≡ l.initial.registry) × (l.cursor ≡ l.initial.cursor))
-      × ((lines : g.row.L.Denot → LogLines) → KeepsLines g.L.Log lines → (h : History) → Follows g.L.Log lines l.initial.registry l.initial.cursor h → HasCleanDisk (state_of l.registry) → IsAsked g.L.Log (AppendsOrdersIn (lines l.cursor.log) h visits) l.initial.cursor.log l.cursor.log);
+      × ((lines : g.row.L.Denot → LogLines) → KeepsLines g.L.Log lines → (h : History) → Follows g.L.Log lines l.initial.registry l.initial.cursor h → HasCleanDisk (state_of l.registry) → IsLogAsked g.L.Log (AppendsOrdersIn (lines l.cursor.log) h visits) l.initial.cursor.log l.cursor.log);
   notes : NotesForeign l.initial.registry l.registry None;
 }

@@ -2,7 +2,7 @@ use Rattle.std.proofs.Common.{subst}
 use Rattle.std.specs.Prelude.{IfErr, IfOk}
 use Rattle.shared_log.specs.Calls.{LogLines}
 use Rattle.shared_registry.specs.Asks.{AppendsNothing}
-use Rattle.shared_registry.specs.Founded.{BeginsWith, HasNoFoundingLine}
+use Rattle.shared_registry.specs.Founded.{BeginsWithFounding, HasNoFoundingLine}
 use Rattle.shared_registry.proofs.AskLemmas.{asked_in_vain, asked_read}
 use Rattle.shared_registry.proofs.FoundedLemmas.{read_founded, read_unfounded}
 use Rattle.shared_registry.proofs.founded.read_founding.Goals as goal
@@ -15,7 +15,7 @@ returns-clause-ok g c lines kept =
     let reads = c.in-Ok.ensures.reads in
     let result = c.founding_in_page.result in
     read_founded g.L.Log lines c.args.log.now c.page.new.self c.in-Ok.page reads (kept.reads c.args.log.now c.page.new.self 0 c.in-Ok.page reads) result
-    (subst (λ (page : LogLines). IfOk result (λ founding. BeginsWith founding page)) c.as_slice.ensures c.founding_in_page.ensures.ok)
+    (subst (λ (page : LogLines). IfOk result (λ founding. BeginsWithFounding founding page)) c.as_slice.ensures c.founding_in_page.ensures.ok)
 
 pub returns-clause-err : goal.returns-clause-err
 returns-clause-err g c lines kept =

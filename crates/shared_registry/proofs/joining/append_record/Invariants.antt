@@ -5,7 +5,7 @@ use Rattle.registry_laws.specs.Machines.{HasValidFields}
 use Rattle.registry_store.specs.Promise.{NotesForeign, Represents, state_of}
 use Rattle.registry_store.specs.Queries.{IsUntouched}
 use Rattle.shared_log.specs.Calls.{Grows, KeepsLines, LogLines}
-use Rattle.shared_registry.specs.Asks.{AppendsRecord, IsAsked}
+use Rattle.shared_registry.specs.Asks.{AppendsRecord, IsLogAsked}
 use Rattle.shared_registry.specs.Records.{HasPassed}
 use Rattle.shared_registry.proofs.joining.append_record.Given as goal
 
@@ -14,7 +14,7 @@ invariant-loop-stop g l = record {
   so_far : (lines : g.row.L.Denot → LogLines) → KeepsLines g.L.Log lines → (h : History) → Represents l.initial.registry h → HasValidFields h → HasPassed lines l.initial.cursor h → HasCleanDisk (state_of l.registry)
       → HasPassed lines l.cursor h × Grows (lines l.initial.cursor.log) (lines l.cursor.log);
   untouched : IsUntouched l.initial.registry l.registry;
-  asks : (h : History) → Represents l.initial.registry h → HasValidFields h → HasCleanDisk (state_of l.registry) → IsAsked g.L.Log (AppendsRecord h) l.initial.cursor.log l.cursor.log;
+  asks : (h : History) → Represents l.initial.registry h → HasValidFields h → HasCleanDisk (state_of l.registry) → IsLogAsked g.L.Log (AppendsRecord h) l.initial.cursor.log l.cursor.log;
   notes : NotesForeign l.initial.registry l.registry None;
 }
 
