@@ -24,8 +24,8 @@ use Rattle.shared_registry.specs.declared.cursor.Cursor.{Cursor}
 use Rattle.shared_registry.specs.declared.stop.ShareStop.{ShareStop}
 use Rattle.shared_registry.specs.declared.stop.ShareStop.TheVariants as stops
 use Rattle.shared_registry.proofs.LineLemmas.{leads_on}
-use Rattle.shared_desk.specs.Refusals.{fault_behind}
-use Rattle.shared_desk.specs.Server.{EndsOver, stop_in}
+use Rattle.shared_desk.specs.Refusals.{fault_behind_stop}
+use Rattle.shared_desk.specs.Server.{EndsOver, stop_in_server}
 use Rattle.shared_desk.specs.Serving.{IsUnserved}
 use Rattle.shared_desk.proofs.TurnLemmas.{turns_lead}
 use Rattle.registry_program.specs.declared.host.Host as host
@@ -65,7 +65,7 @@ module _ {S : Type 0} {g : Ghosts S} {L : Type 0} (l : log.Ghosts L) (lines : L 
   unserved_over : (c : Cursor L) (h : History) (bytes : List ℕ) (stop : ShareStop) → IsUnserved l lines c it_new c_new h bytes stop → LeavesOver (fault_of_stop stop) h
   unserved_over c h bytes stop it = elim it [ inl left ↦ left_over c h stop left | inr failed ↦ following_over h (fault_of_stop stop) failed.2 ]
 
-  ends_over : (c : Cursor L) (h : History) (visits : List Visit) (stop : Option ShareStop) → EndsOver l lines c it_new c_new h visits stop → LeavesOver (fault_behind stop) h
+  ends_over : (c : Cursor L) (h : History) (visits : List Visit) (stop : Option ShareStop) → EndsOver l lines c it_new c_new h visits stop → LeavesOver (fault_behind_stop stop) h
   ends_over c h visits None it = following_over h None (it.0, turns_lead l lines c h visits c_new it.0 it.1, it.2)
   ends_over c h visits (Some stop) it =
       over_earlier h it.middle (fault_of_stop stop) (turns_lead l lines c h it.before it.place it.middle it.turns) (unserved_over it.place it.middle it.last.bytes stop it.left)
@@ -128,8 +128,8 @@ module _ {H F I R W K : Type 0} (m : host.Ghosts H F I) (d : disk.Ghosts F) (c :
           over = over;
           followed = followed;
           served = served;
-          holds = leads_over m d k l old new path address ends Does over same followed.found followed.middle followed.cursor served.left (fault_behind (stop_in served.end)) followed.taken (λ clean. omega (arith, all.endures.clean, clean))
-              (λ lines kept h follows clean. ends_over l lines over.after served.left clean followed.cursor h all.served.0 (stop_in served.end) (all.served.7 lines kept h follows clean));
+          holds = leads_over m d k l old new path address ends Does over same followed.found followed.middle followed.cursor served.left (fault_behind_stop (stop_in_server served.end)) followed.taken (λ clean. omega (arith, all.endures.clean, clean))
+              (λ lines kept h follows clean. ends_over l lines over.after served.left clean followed.cursor h all.served.0 (stop_in_server served.end) (all.served.7 lines kept h follows clean));
         }
 
     followed_whole : Whole

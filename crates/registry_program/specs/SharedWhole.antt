@@ -29,8 +29,8 @@ use Rattle.shared_registry.specs.Cursors.{log_of}
 use Rattle.shared_registry.specs.declared.cursor.Cursor.{Cursor}
 use Rattle.shared_registry.specs.Follows.{GoesOnByOne}
 use Rattle.shared_registry.specs.Lines.{fault_in_call}
-use Rattle.shared_desk.specs.Refusals.{fault_behind}
-use Rattle.shared_desk.specs.Server.{stop_in}
+use Rattle.shared_desk.specs.Refusals.{fault_behind_stop}
+use Rattle.shared_desk.specs.Server.{stop_in_server}
 use Rattle.registry_program.specs.declared.host.Host as host
 use Rattle.registry_program.specs.declared.logs.Logs as logs
 use Rattle.registry_program.specs.Outputs.{IsFailure, IsRejection, earlier}
@@ -65,7 +65,7 @@ module _ {H F I R W K : Type 0} (m : host.Ghosts H F I) (d : disk.Ghosts F) (c :
     pub over : IsRunOver m d old new path ends (ServesOver m c r w k l port limit address)
     pub followed : IsFollowed k l address (ServesJoined m c r w k l port limit) over.opened over.done over.it over.after (earlier ends over.errors over.before)
     pub served : IsServedOver m c r w k l port limit followed.found over.done followed.middle over.after followed.cursor (earlier ends over.errors over.before)
-    pub holds : LeadsFilesOver m d l old path over.closes.files served.left (fault_behind (stop_in served.end))
+    pub holds : LeadsFilesOver m d l old path over.closes.files served.left (fault_behind_stop (stop_in_server served.end))
 
   -- serve STORE over a log; without a log, or where the port could not be listened on, the history stays
   abbrev pub ServesSharedWholly : H → H → List ℕ → ℕ → ℕ → List ℕ → Ends → Type 0

@@ -30,7 +30,7 @@ use Rattle.shared_registry.specs.declared.cursor.Cursor.{Cursor}
 use Rattle.shared_registry.specs.declared.stop.ShareStop.{ShareStop}
 use Rattle.shared_registry.specs.declared.stop.ShareStop.TheVariants as stops
 use Rattle.shared_desk.specs.Asks.{AppendsOrdersIn}
-use Rattle.shared_desk.specs.Refusals.{fault_behind}
+use Rattle.shared_desk.specs.Refusals.{fault_behind_stop}
 use Rattle.shared_desk.specs.Server as desk
 use Rattle.shared_desk.specs.declared.server.SharedStop.{SharedStop}
 use Rattle.shared_desk.specs.declared.server.SharedStop.TheVariants as ends
@@ -149,13 +149,13 @@ module _ {H F I R W K : Type 0} (m : host.Ghosts H F I) (c : connections.Ghosts 
   pub record AreServedOver {S : Type 0} {g : store.Ghosts S} (old new : H) (it after : Registry S g) (cursor cursor_new : Cursor K) (limit : ℕ) (end : Result (Unit {0}) SharedStop) : Type 0 where
     pub served : (visits : List Visit) × (middle : H)
         × HaveVisited c.opens c.closes r.remaining r.failures w.contents w.failures old middle visits
-        × desk.EndsConnections c.fails middle new end
+        × desk.EndsConnectionsOverLog c.fails middle new end
         × (length visits ≤ limit) × OnOk end (length visits ≡ limit)
-        × desk.IsToldLast visits (desk.stop_in end)
-        × ((lines : K → LogLines) → KeepsLines l lines → (h : History) → Follows l lines it cursor h → HasCleanDisk (state_of after) → desk.EndsOver l lines cursor after cursor_new h visits (desk.stop_in end))
-        × (is_poisoned it ≡ true → All desk.IsTurnedAwayAt visits × (after ≡ it) × (cursor_new ≡ cursor))
+        × desk.IsToldLast visits (desk.stop_in_server end)
+        × ((lines : K → LogLines) → KeepsLines l lines → (h : History) → Follows l lines it cursor h → HasCleanDisk (state_of after) → desk.EndsOver l lines cursor after cursor_new h visits (desk.stop_in_server end))
+        × (is_poisoned it ≡ true → All desk.IsTurnedAwayOverLogAt visits × (after ≡ it) × (cursor_new ≡ cursor))
         × ((lines : K → LogLines) → KeepsLines l lines → (h : History) → Follows l lines it cursor h → HasCleanDisk (state_of after) → IsLogAsked l (AppendsOrdersIn (lines cursor_new.log) h visits) cursor.log cursor_new.log)
-    pub notes : NotesForeign it after (fault_behind (desk.stop_in end))
+    pub notes : NotesForeign it after (fault_behind_stop (desk.stop_in_server end))
     pub endures : Endures (state_of it) (state_of after)
 
   -- the machine listened on this port, and connections to it were served

@@ -30,8 +30,8 @@ use Rattle.shared_registry.specs.declared.stop.ShareStop.{ShareStop}
 use Rattle.shared_registry.specs.declared.stop.ShareStop.TheVariants as stops
 use Rattle.shared_registry.proofs.LineLemmas.{leads_nowhere}
 use Rattle.shared_desk.specs.Answers.{Answers, IsUnanswered}
-use Rattle.shared_desk.specs.Refusals.{fault_behind}
-use Rattle.shared_desk.specs.Serving.{IsServedBeside, IsTold, IsToldBy, IsTurnedAway, IsUnserved, done_for_cache}
+use Rattle.shared_desk.specs.Refusals.{fault_behind_stop}
+use Rattle.shared_desk.specs.Serving.{IsServedBeside, IsToldOverLog, IsToldOverLogBy, IsTurnedAwayOverLog, IsUnserved, done_for_cache}
 
 -- ---- histories
 
@@ -56,33 +56,33 @@ leads_by_message h (Ok (messages.Request r)) = (r ∷ [], refl)
 
 -- ---- what is told
 
-pub told_by : (done : Result Response ShareStop) (response : Response) (stop : Option ShareStop) → IsTold done response stop → IsToldBy stop response
-told_by (Ok wanted) response stop told = subst (λ (s : Option ShareStop). IsToldBy s response) (sym told.1) tt
-told_by (Err why) response stop told = subst (λ (s : Option ShareStop). IsToldBy s response) (sym told.1) told.0
+pub told_by : (done : Result Response ShareStop) (response : Response) (stop : Option ShareStop) → IsToldOverLog done response stop → IsToldOverLogBy stop response
+told_by (Ok wanted) response stop told = subst (λ (s : Option ShareStop). IsToldOverLogBy s response) (sym told.1) tt
+told_by (Err why) response stop told = subst (λ (s : Option ShareStop). IsToldOverLogBy s response) (sym told.1) told.0
 
-pub same_fault : (done : Result Response ShareStop) (response : Response) (stop : Option ShareStop) → IsTold done response stop → fault_behind stop ≡ fault_in_call done
-same_fault (Ok wanted) response stop told = ap fault_behind told.1
-same_fault (Err why) response stop told = ap fault_behind told.1
+pub same_fault : (done : Result Response ShareStop) (response : Response) (stop : Option ShareStop) → IsToldOverLog done response stop → fault_behind_stop stop ≡ fault_in_call done
+same_fault (Ok wanted) response stop told = ap fault_behind_stop told.1
+same_fault (Err why) response stop told = ap fault_behind_stop told.1
 
 -- over a poisoned registry
 pub turned_away : {S L : Type 0} {g : Ghosts S} (it new : Registry S g) (c c_new : Cursor L) (founding : ℕ) (bytes : List ℕ) (said : Result Message HttpRefusal) (done : Result Response ShareStop) (response : Response) (stop : Option ShareStop)
     → Says founding bytes said
     → IfErr said (λ refusal. IfOk done (λ response. response ≡ refusal_response refusal) × IfErr done (λ stop. stop ≡ stops.NoMemory) × (new ≡ it) × (c_new ≡ c))
     → OnOk said ((done ≡ Err (stops.Registry faults.Poisoned)) × (new ≡ it) × (c_new ≡ c))
-    → IsTold done response stop → IsTurnedAway bytes response stop × (new ≡ it) × (c_new ≡ c)
+    → IsToldOverLog done response stop → IsTurnedAwayOverLog bytes response stop × (new ≡ it) × (c_new ≡ c)
 turned_away it new c c_new founding bytes (Ok message) (Ok wanted) response stop says refused away told = (let never : Ok wanted ≡ Err (stops.Registry faults.Poisoned) = away.0 in absurd cc)
 turned_away it new c c_new founding bytes (Ok message) (Err why) response stop says refused away told =
     let both : Err why ≡ Err (stops.Registry faults.Poisoned) = away.0 in
     let same : why ≡ stops.Registry faults.Poisoned = cc in
-    (subst (λ (s : Option ShareStop). IsTurnedAway bytes response s) (sym told.1) (inl same), away.1, away.2)
+    (subst (λ (s : Option ShareStop). IsTurnedAwayOverLog bytes response s) (sym told.1) (inl same), away.1, away.2)
 turned_away it new c c_new founding bytes (Err refusal) (Ok wanted) response stop says refused away told = (
-  subst (λ (s : Option ShareStop). IsTurnedAway bytes response s) (sym told.1)
+  subst (λ (s : Option ShareStop). IsTurnedAwayOverLog bytes response s) (sym told.1)
       (record { founding = founding; refusal = refusal; says = says; written = subst (λ (r : Response). IsInPlaceOf response r) refused.0 told.0 }),
   refused.2,
   refused.3,
 )
 turned_away it new c c_new founding bytes (Err refusal) (Err why) response stop says refused away told =
-    (subst (λ (s : Option ShareStop). IsTurnedAway bytes response s) (sym told.1) (inr refused.1), refused.2, refused.3)
+    (subst (λ (s : Option ShareStop). IsTurnedAwayOverLog bytes response s) (sym told.1) (inr refused.1), refused.2, refused.3)
 
 -- ---- what is served
 
@@ -101,7 +101,7 @@ module _ {S : Type 0} {g : Ghosts S} {L : Type 0} (l : LogGhosts L) (lines : L �
   -- the message was read, and this came of it
   pub served_then : (bytes : List ℕ) (said : Result Message HttpRefusal) (done : Result Response ShareStop) (response : Response) (stop : Option ShareStop) (mid cache : Cache) → Says h.founding.vendor bytes said
       → IfOk done (λ wanted. Answers l lines c new c_new h said wanted mid) → IfErr done (IsUnanswered l lines c new c_new h said) → cache ≡ cache_after mid (done_for_cache done) said
-      → IsTold done response stop → IsServedBeside l lines c new c_new h bytes response cache stop
+      → IsToldOverLog done response stop → IsServedBeside l lines c new c_new h bytes response cache stop
   served_then bytes said (Ok wanted) response stop mid cache says ok err after told =
       subst (λ (s : Option ShareStop). IsServedBeside l lines c new c_new h bytes response cache s) (sym told.1)
       (record { said = said; says = says; wanted = wanted; next = ok.next; answer = ok.answer; written = told.0; follows = ok.follows; texts = texts_then bytes said wanted mid cache says ok after })

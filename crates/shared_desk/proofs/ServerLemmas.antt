@@ -37,9 +37,9 @@ use Rattle.shared_desk.specs.declared.serve.Turn.{Turn}
 use Rattle.shared_desk.specs.declared.server.SharedStop.{SharedStop}
 use Rattle.shared_desk.specs.declared.server.SharedStop.TheVariants as ends
 use Rattle.shared_desk.specs.Asks.{AppendsOrderIn, AppendsOrdersIn}
-use Rattle.shared_desk.specs.Refusals.{fault_behind, may_pass, unavailable_for}
-use Rattle.shared_desk.specs.Serving.{IsAnsweredBeside, IsServedBeside, IsToldBy, IsTurnedAway, IsUnserved}
-use Rattle.shared_desk.specs.Server.{EndsBeside, EndsConnections, EndsOver, IfVisited, IsStopTold, IsToldAt, IsToldLast, IsTurnedAwayAt, IsTurnOver, TurnsOver, ends_by, served_in, stop_in, stop_to_end}
+use Rattle.shared_desk.specs.Refusals.{fault_behind_stop, may_pass, unavailable_for}
+use Rattle.shared_desk.specs.Serving.{IsAnsweredBeside, IsServedBeside, IsToldOverLogBy, IsTurnedAwayOverLog, IsUnserved}
+use Rattle.shared_desk.specs.Server.{EndsBeside, EndsConnectionsOverLog, EndsOver, IfVisitedOverLog, IsStopTold, IsToldOverLogAt, IsToldLast, IsTurnedAwayOverLogAt, IsTurnOver, TurnsOver, ends_by, served_in, stop_in_server, stop_to_end}
 use Rattle.shared_desk.proofs.ServeLemmas.{leads_by_message}
 use Rattle.shared_desk.proofs.TurnLemmas.{asked_more}
 
@@ -54,16 +54,16 @@ stop_told bytes response served stop sent is =
     let unavailable = ap (λ (r : Response). r.status) is ∙ status_503 (unavailable_for stop) in
     record { text_is = ap response_bytes is; status_is = subst (λ (n : ℕ). IfOk served.status (λ sent. sent ≡ n)) unavailable sent }
 
-told_if : (visit : Visit) (stop : ShareStop) (b : Bool) → may_pass stop ≡ b → IsStopTold visit stop → IsToldAt visit (if b then None else Some stop)
+told_if : (visit : Visit) (stop : ShareStop) (b : Bool) → may_pass stop ≡ b → IsStopTold visit stop → IsToldOverLogAt visit (if b then None else Some stop)
 told_if visit stop true passes told = tt
 told_if visit stop false passes told = (told, passes)
 
-told_at : (bytes : List ℕ) (response : Response) (served : Served) (stop : Option ShareStop) → IfOk served.status (λ sent. sent ≡ response.status) → IsToldBy stop response → IsToldAt (served_as bytes response served) (ends_by stop)
+told_at : (bytes : List ℕ) (response : Response) (served : Served) (stop : Option ShareStop) → IfOk served.status (λ sent. sent ≡ response.status) → IsToldOverLogBy stop response → IsToldOverLogAt (served_as bytes response served) (ends_by stop)
 told_at bytes response served None sent told = tt
 told_at bytes response served (Some stop) sent told = told_if (served_as bytes response served) stop (may_pass stop) refl (stop_told bytes response served stop sent told)
 
 -- over a poisoned registry
-turned_at : (bytes : List ℕ) (response : Response) (served : Served) (stop : Option ShareStop) → IfOk served.status (λ sent. sent ≡ response.status) → IsToldBy stop response → IsTurnedAway bytes response stop → IsTurnedAwayAt (served_as bytes response served)
+turned_at : (bytes : List ℕ) (response : Response) (served : Served) (stop : Option ShareStop) → IfOk served.status (λ sent. sent ≡ response.status) → IsToldOverLogBy stop response → IsTurnedAwayOverLog bytes response stop → IsTurnedAwayOverLogAt (served_as bytes response served)
 turned_at bytes response served None sent told away = inr (response, refl, away)
 turned_at bytes response served (Some stop) sent told away = inl (stop, stop_told bytes response served stop sent told)
 
@@ -122,7 +122,7 @@ module _ {S : Type 0} {g : Ghosts S} {L : Type 0} (l : LogGhosts L) (lines : L �
   unanswered bytes response served cache stops.Empty sent told none it = it
   unanswered bytes response served cache stops.Full sent told none it = it
 
-  served_visit : (bytes : List ℕ) (response : Response) (served : Served) (cache : Cache) (stop : Option ShareStop) → IfOk served.status (λ sent. sent ≡ response.status) → IsToldBy stop response
+  served_visit : (bytes : List ℕ) (response : Response) (served : Served) (cache : Cache) (stop : Option ShareStop) → IfOk served.status (λ sent. sent ≡ response.status) → IsToldOverLogBy stop response
       → IsServedBeside l lines c new c_new h bytes response cache stop → EndsBeside l lines c new c_new h (served_as bytes response served) cache (ends_by stop)
   served_visit bytes response served cache None sent told it = responded bytes response served cache sent it it.written
   served_visit bytes response served cache (Some stop) sent told it = unanswered bytes response served cache stop sent told it.1 it.0
@@ -132,19 +132,19 @@ module _ {S C R W : Type 0} {g : Ghosts S} {L : Type 0} (l : LogGhosts L) (opens
   abbrev pub Came : C → C → Registry S g → Registry S g → Cursor L → Cursor L → Cache → Cache → Option ShareStop → Type 0
   Came old new it last c c_new cache cache_new stop = (visit : Visit)
       × IsVisit opens closes remaining reads_failed contents writes_failed old new visit
-      × IsToldAt visit stop
+      × IsToldOverLogAt visit stop
       × ((lines : L → LogLines) → KeepsLines l lines → (h : History) → Follows l lines it c h → HasCleanDisk (state_of last) → AreTextsOf h cache → EndsBeside l lines c last c_new h visit cache_new stop)
-      × (is_poisoned it ≡ true → IsTurnedAwayAt visit × (last ≡ it) × (c_new ≡ c))
+      × (is_poisoned it ≡ true → IsTurnedAwayOverLogAt visit × (last ≡ it) × (c_new ≡ c))
       × ((lines : L → LogLines) → KeepsLines l lines → (h : History) → Follows l lines it c h → HasCleanDisk (state_of last) → IsLogAsked l (AppendsOrderIn (lines c_new.log) h visit.bytes) c.log c_new.log)
 
   -- a message was served between the opening and the closing of a connection
   pub visit_of : (old opened new : C) (reader reader_new : R) (writer writer_new : W) (it last : Registry S g) (c c_new : Cursor L) (cache cache_new : Cache) (turn : Result Turn Broken) (status : Option ℕ) (stop : Option ShareStop) (bytes : List ℕ)
       → opens old opened reader writer → closes opened new reader_new writer_new status → status ≡ status_of (served_in turn) → stop ≡ stop_to_end turn → MayGive (remaining reader) bytes
       → IfOk turn (λ turn. (response : Response) × Sends contents writes_failed writer writer_new response turn.served.status
-      × (turn.served.fault ≡ fault_behind turn.stop)
-      × IsToldBy turn.stop response
+      × (turn.served.fault ≡ fault_behind_stop turn.stop)
+      × IsToldOverLogBy turn.stop response
       × ((lines : L → LogLines) → KeepsLines l lines → (h : History) → Follows l lines it c h → HasCleanDisk (state_of last) → AreTextsOf h cache → IsServedBeside l lines c last c_new h bytes response cache_new turn.stop)
-      × (is_poisoned it ≡ true → IsTurnedAway bytes response turn.stop × (last ≡ it) × (c_new ≡ c))
+      × (is_poisoned it ≡ true → IsTurnedAwayOverLog bytes response turn.stop × (last ≡ it) × (c_new ≡ c))
       × ((lines : L → LogLines) → KeepsLines l lines → (h : History) → Follows l lines it c h → HasCleanDisk (state_of last) → IsLogAsked l (AppendsOrderIn (lines c_new.log) h bytes) c.log c_new.log))
       → OnErr turn (FailsAfter (remaining reader) (remaining reader_new) (reads_failed reader) (reads_failed reader_new) IsIncomplete × (writer_new ≡ writer) × (last ≡ it) × (c_new ≡ c) × (cache_new ≡ cache))
       → OnOk turn (reads_failed reader_new ≡ reads_failed reader)
@@ -201,11 +201,11 @@ module _ {S C R W : Type 0} {g : Ghosts S} {L : Type 0} (l : LogGhosts L) (opens
   abbrev Ends : C → C → Registry S g → Registry S g → Cursor L → Cursor L → ℕ → Result (Unit {0}) SharedStop → Type 0
   Ends old new first last c c_new count result = (visits : List Visit) × (middle : C)
       × HaveVisited opens closes remaining reads_failed contents writes_failed old middle visits
-      × EndsConnections fails middle new result
+      × EndsConnectionsOverLog fails middle new result
       × (length visits ≤ count) × OnOk result (length visits ≡ count)
-      × IsToldLast visits (stop_in result)
-      × ((lines : L → LogLines) → KeepsLines l lines → (h : History) → Follows l lines first c h → HasCleanDisk (state_of last) → EndsOver l lines c last c_new h visits (stop_in result))
-      × (is_poisoned first ≡ true → All IsTurnedAwayAt visits × (last ≡ first) × (c_new ≡ c))
+      × IsToldLast visits (stop_in_server result)
+      × ((lines : L → LogLines) → KeepsLines l lines → (h : History) → Follows l lines first c h → HasCleanDisk (state_of last) → EndsOver l lines c last c_new h visits (stop_in_server result))
+      × (is_poisoned first ≡ true → All IsTurnedAwayOverLogAt visits × (last ≡ first) × (c_new ≡ c))
       × ((lines : L → LogLines) → KeepsLines l lines → (h : History) → Follows l lines first c h → HasCleanDisk (state_of last) → IsLogAsked l (AppendsOrdersIn (lines c_new.log) h visits) c.log c_new.log)
 
   -- a server ends when no more connections come, or at a stop
@@ -213,9 +213,9 @@ module _ {S C R W : Type 0} {g : Ghosts S} {L : Type 0} (l : LogGhosts L) (opens
       → HaveVisited opens closes remaining reads_failed contents writes_failed old middle visits → length visits < count
       → (HasCleanDisk (state_of last) → HasCleanDisk (state_of mid))
       → ((lines : L → LogLines) → KeepsLines l lines → (h : History) → Follows l lines first c h → HasCleanDisk (state_of mid) → FollowsBeside l lines c h mid c_mid cache visits)
-      → (is_poisoned first ≡ true → All IsTurnedAwayAt visits × (mid ≡ first) × (c_mid ≡ c))
+      → (is_poisoned first ≡ true → All IsTurnedAwayOverLogAt visits × (mid ≡ first) × (c_mid ≡ c))
       → ((lines : L → LogLines) → KeepsLines l lines → (h : History) → Follows l lines first c h → HasCleanDisk (state_of mid) → IsLogAsked l (AppendsOrdersIn (lines c_mid.log) h visits) c.log c_mid.log)
-      → IfVisited (Err stop) (Came l opens closes remaining reads_failed contents writes_failed middle new mid last c_mid c_new cache cache_new (stop_in (Err stop)))
+      → IfVisitedOverLog (Err stop) (Came l opens closes remaining reads_failed contents writes_failed middle new mid last c_mid c_new cache cache_new (stop_in_server (Err stop)))
       → (stop ≡ ends.Connections → fails middle new × (last ≡ mid) × (c_new ≡ c_mid)) → Ends old new first last c c_new count (Err stop)
   ended_by old middle new first mid last c c_mid c_new cache cache_new count visits ends.Connections before less early so_far turned asked came none =
       let ended = none refl in (
@@ -245,7 +245,7 @@ module _ {S C R W : Type 0} {g : Ghosts S} {L : Type 0} (l : LogGhosts L) (opens
         λ poisoned.
             let away = turned poisoned in
             let one = came.4 (subst (λ (r : Registry S g). is_poisoned r ≡ true) (sym away.1) poisoned) in
-            (all_more IsTurnedAwayAt visits came.0 away.0 one.0, one.1 ∙ away.1, one.2 ∙ away.2),
+            (all_more IsTurnedAwayOverLogAt visits came.0 away.0 one.0, one.1 ∙ away.1, one.2 ∙ away.2),
         λ lines kept h follows clean.
             let before = so_far lines kept h follows (early clean) in
             asked_more l lines kept c h visits c_mid before.0 before.1 came.0 c_new (asked lines kept h follows (early clean)) (came.5 lines kept before.0 before.2 clean),

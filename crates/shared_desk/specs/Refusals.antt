@@ -41,6 +41,6 @@ stop_of (desk.Registry fault) = stops.Registry fault
 stop_of desk.NoMemory = stops.NoMemory
 
 -- the fault of the registry behind a response
-abbrev pub fault_behind : Option ShareStop → Option Fault
-fault_behind None = None
-fault_behind (Some stop) = fault_of_stop stop
+abbrev pub fault_behind_stop : Option ShareStop → Option Fault
+fault_behind_stop None = None
+fault_behind_stop (Some stop) = fault_of_stop stop

@@ -49,22 +49,22 @@ stop_to_end (Ok turn) = ends_by turn.stop
 stop_to_end (Err broken) = None
 
 -- what ended the server, if it was not a lack of connections
-abbrev pub stop_in : Result (Unit {0}) SharedStop → Option ShareStop
-stop_in (Ok done) = None
-stop_in (Err ends.Connections) = None
-stop_in (Err (ends.Share stop)) = Some stop
+abbrev pub stop_in_server : Result (Unit {0}) SharedStop → Option ShareStop
+stop_in_server (Ok done) = None
+stop_in_server (Err ends.Connections) = None
+stop_in_server (Err (ends.Share stop)) = Some stop
 
 -- this holds if a connection came
-abbrev pub IfVisited : Result (Unit {0}) SharedStop → Type 0 → Type 0
-IfVisited (Ok done) P = P
-IfVisited (Err ends.Connections) P = ⊤
-IfVisited (Err (ends.Share stop)) P = P
+abbrev pub IfVisitedOverLog : Result (Unit {0}) SharedStop → Type 0 → Type 0
+IfVisitedOverLog (Ok done) P = P
+IfVisitedOverLog (Err ends.Connections) P = ⊤
+IfVisitedOverLog (Err (ends.Share stop)) P = P
 
 -- the connections are as the last one left them, or no further one could come
-abbrev pub EndsConnections : {C : Type 0} → (C → C → Type 0) → C → C → Result (Unit {0}) SharedStop → Type 0
-EndsConnections fails middle new (Ok done) = new ≡ middle
-EndsConnections fails middle new (Err ends.Connections) = fails middle new
-EndsConnections fails middle new (Err (ends.Share stop)) = new ≡ middle
+abbrev pub EndsConnectionsOverLog : {C : Type 0} → (C → C → Type 0) → C → C → Result (Unit {0}) SharedStop → Type 0
+EndsConnectionsOverLog fails middle new (Ok done) = new ≡ middle
+EndsConnectionsOverLog fails middle new (Err ends.Connections) = fails middle new
+EndsConnectionsOverLog fails middle new (Err (ends.Share stop)) = new ≡ middle
 
 -- the refusal for this stop was to be written, with status 503 if all was
 pub record IsStopTold (visit : Visit) (stop : ShareStop) : Type 0 where
@@ -72,18 +72,18 @@ pub record IsStopTold (visit : Visit) (stop : ShareStop) : Type 0 where
   pub status_is : IsSentWith visit.end 503
 
 -- what ends the server is told at its connection
-abbrev pub IsToldAt : Visit → Option ShareStop → Type 0
-IsToldAt visit None = ⊤
-IsToldAt visit (Some stop) = IsStopTold visit stop × (may_pass stop ≡ false)
+abbrev pub IsToldOverLogAt : Visit → Option ShareStop → Type 0
+IsToldOverLogAt visit None = ⊤
+IsToldOverLogAt visit (Some stop) = IsStopTold visit stop × (may_pass stop ≡ false)
 
 -- and that is the last one
 abbrev pub IsToldLast : List Visit → Option ShareStop → Type 0
 IsToldLast visits None = ⊤
-IsToldLast visits (Some stop) = (before : List Visit) × (last : Visit) × (visits ≡ before ++ last ∷ []) × IsToldAt last (Some stop)
+IsToldLast visits (Some stop) = (before : List Visit) × (last : Visit) × (visits ≡ before ++ last ∷ []) × IsToldOverLogAt last (Some stop)
 
 -- what a connection gets over a poisoned registry: refusal 30 or 31, or its own one if its message is refused by itself
-abbrev pub IsTurnedAwayAt : Visit → Type 0
-IsTurnedAwayAt visit = TurnedAt visit.end
+abbrev pub IsTurnedAwayOverLogAt : Visit → Type 0
+IsTurnedAwayOverLogAt visit = TurnedAt visit.end
   where
     TurnedAt : Result Served Broken → Type 0
     TurnedAt (Ok served) = ((stop : ShareStop) × IsStopTold visit stop) ⊎ ((response : Response) × (visit.text ≡ response_bytes response) × IsRefusedAlone visit.bytes response)

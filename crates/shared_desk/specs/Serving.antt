@@ -30,14 +30,14 @@ use Rattle.shared_desk.specs.Refusals.{unavailable_for}
 
 -- What is written for what was done: the response, or refusal 31 if memory ran out for its head; or the refusal for what stopped
 -- the message.
-abbrev pub IsTold : Result Response ShareStop → Response → Option ShareStop → Type 0
-IsTold (Ok wanted) response stop = IsInPlaceOf response wanted × (stop ≡ None)
-IsTold (Err why) response stop = (response ≡ unavailable_response (unavailable_for why)) × (stop ≡ Some why)
+abbrev pub IsToldOverLog : Result Response ShareStop → Response → Option ShareStop → Type 0
+IsToldOverLog (Ok wanted) response stop = IsInPlaceOf response wanted × (stop ≡ None)
+IsToldOverLog (Err why) response stop = (response ≡ unavailable_response (unavailable_for why)) × (stop ≡ Some why)
 
 -- what stopped a message is told by its refusal
-abbrev pub IsToldBy : Option ShareStop → Response → Type 0
-IsToldBy None response = ⊤
-IsToldBy (Some stop) response = response ≡ unavailable_response (unavailable_for stop)
+abbrev pub IsToldOverLogBy : Option ShareStop → Response → Type 0
+IsToldOverLogBy None response = ⊤
+IsToldOverLogBy (Some stop) response = response ≡ unavailable_response (unavailable_for stop)
 
 -- what the cache keeps of what was done: whatever stopped a message drops all
 abbrev pub done_for_cache : Result Response ShareStop → Result Response DeskFault
@@ -57,9 +57,9 @@ pub record IsRefusedAlone (bytes : List ℕ) (response : Response) : Type 0 wher
   pub written : IsInPlaceOf response (refusal_response refusal)
 
 -- Over a poisoned registry an order or a query is stopped by that, and any message by a lack of memory.
-abbrev pub IsTurnedAway : List ℕ → Response → Option ShareStop → Type 0
-IsTurnedAway bytes response None = IsRefusedAlone bytes response
-IsTurnedAway bytes response (Some stop) = (stop ≡ stops.Registry faults.Poisoned) ⊎ (stop ≡ stops.NoMemory)
+abbrev pub IsTurnedAwayOverLog : List ℕ → Response → Option ShareStop → Type 0
+IsTurnedAwayOverLog bytes response None = IsRefusedAlone bytes response
+IsTurnedAwayOverLog bytes response (Some stop) = (stop ≡ stops.Registry faults.Poisoned) ⊎ (stop ≡ stops.NoMemory)
 
 module _ {S : Type 0} {g : Ghosts S} {L : Type 0} (l : LogGhosts L) (lines : L → LogLines) (c : Cursor L) (it_new : Registry S g) (c_new : Cursor L) (h : History) where
   -- the response is written in place of the answer to all bytes, and the texts are those of the history after it

@@ -1,7 +1,7 @@
 //! What a message gets if the registry does not go on with its log, and whether the server does.
 
 ghost use Rattle.std.specs.Prelude.{◌≡◌};
-ghost use Rattle.shared_desk.specs.Refusals.{fault_behind, may_pass, stop_of, unavailable_for};
+ghost use Rattle.shared_desk.specs.Refusals.{fault_behind_stop, may_pass, stop_of, unavailable_for};
 
 use registry_desk::{DeskFault, unavailable_of};
 use registry_http::Unavailable;
@@ -55,7 +55,7 @@ pub(crate) fn stop_of(fault: DeskFault) -> ShareStop
 
 /// Returns the fault of the registry behind a response, if any.
 pub(crate) fn fault_behind(stop: Option<ShareStop>) -> Option<Fault>
-    ensures { result ≡ fault_behind stop }
+    ensures { result ≡ fault_behind_stop stop }
 {
     match stop {
         Some(ShareStop::Registry(fault)) => Some(fault),

@@ -14,8 +14,8 @@ ghost use Rattle.shared_log.specs.Calls.{KeepsLines, LogLines};
 ghost use Rattle.shared_registry.specs.Asks.{IsLogAsked};
 ghost use Rattle.shared_registry.specs.Follows.{Follows};
 ghost use Rattle.shared_desk.specs.Asks.{AppendsOrderIn};
-ghost use Rattle.shared_desk.specs.Refusals.{fault_behind, unavailable_for};
-ghost use Rattle.shared_desk.specs.Serving.{IsServedBeside, IsTold, IsToldBy, IsTurnedAway, done_for_cache, stop_behind};
+ghost use Rattle.shared_desk.specs.Refusals.{fault_behind_stop, unavailable_for};
+ghost use Rattle.shared_desk.specs.Serving.{IsServedBeside, IsToldOverLog, IsToldOverLogBy, IsTurnedAwayOverLog, done_for_cache, stop_behind};
 
 use crate::answering::answer;
 use crate::refusal::{fault_behind, unavailable_for};
@@ -42,7 +42,7 @@ pub(crate) struct Turn {
 fn give_up<W: Sink>(sink: &mut W, stop: ShareStop) -> Turn
     ensures sent { Sends W.contents W.failures sink.old sink.new (unavailable_response (unavailable_for stop)) result.served.status }
     ensures stop { result.stop ≡ Some stop }
-    ensures fault { result.served.fault ≡ fault_behind (Some stop) }
+    ensures fault { result.served.fault ≡ fault_behind_stop (Some stop) }
 {
     let status = write_unavailable(sink, unavailable_for(stop));
     Turn {
@@ -56,7 +56,7 @@ fn give_up<W: Sink>(sink: &mut W, stop: ShareStop) -> Turn
 
 /// Writes the response, or refusal 30 or 31 for what stopped the message.
 fn send<W: Sink>(alloc: Global, sink: &mut W, done: &Result<Response, ShareStop>) -> Turn
-    ensures { (written : TheResponse) × IsTold done.now written result.stop × (result.served.fault ≡ fault_behind result.stop) × Sends W.contents W.failures sink.old sink.new written result.served.status }
+    ensures { (written : TheResponse) × IsToldOverLog done.now written result.stop × (result.served.fault ≡ fault_behind_stop result.stop) × Sends W.contents W.failures sink.old sink.new written result.served.status }
 {
     match done {
         Ok(response) => {
@@ -104,14 +104,14 @@ pub(crate) fn serve_message<R: Source, W: Sink, S: Alter, L: Log>(
 ) -> Result<Turn, Broken>
     ensures served { (bytes : List ℕ) × MayGive (R.remaining source.old) bytes × IfOk result (λ turn. (response : TheResponse)
         × Sends W.contents W.failures sink.old sink.new response turn.served.status
-        × (turn.served.fault ≡ fault_behind turn.stop)
-        × IsToldBy turn.stop response
+        × (turn.served.fault ≡ fault_behind_stop turn.stop)
+        × IsToldOverLogBy turn.stop response
         × ((lines : L → LogLines) → KeepsLines L.Log lines → (h : History) → Follows L.Log lines registry.old cursor.old h → HasCleanDisk (state_of registry.new) → AreTextsOf h cache.old
         → IsServedBeside L.Log lines cursor.old registry.new cursor.new h bytes response cache.new turn.stop)
-        × (is_poisoned registry.old ≡ true → IsTurnedAway bytes response turn.stop × (registry.new ≡ registry.old) × (cursor.new ≡ cursor.old))
+        × (is_poisoned registry.old ≡ true → IsTurnedAwayOverLog bytes response turn.stop × (registry.new ≡ registry.old) × (cursor.new ≡ cursor.old))
         × ((lines : L → LogLines) → KeepsLines L.Log lines → (h : History) → Follows L.Log lines registry.old cursor.old h → HasCleanDisk (state_of registry.new)
         → IsLogAsked L.Log (AppendsOrderIn (lines cursor.new.log) h bytes) cursor.old.log cursor.new.log)) }
-    ensures notes { NotesForeign registry.old registry.new (fault_behind (stop_behind result)) }
+    ensures notes { NotesForeign registry.old registry.new (fault_behind_stop (stop_behind result)) }
     ensures read { OnErr result (FailsAfter (R.remaining source.old) (R.remaining source.new) (R.failures source.old) (R.failures source.new) IsIncomplete × (sink.new ≡ sink.old) × (registry.new ≡ registry.old) × (cursor.new ≡ cursor.old) × (cache.new ≡ cache.old)) }
     ensures kept { OnOk result (R.failures source.new ≡ R.failures source.old) }
     ensures endures { Endures (state_of registry.old) (state_of registry.new) }

@@ -10,8 +10,8 @@ ghost use Rattle.shared_log.specs.Calls.{KeepsLines, LogLines};
 ghost use Rattle.shared_registry.specs.Asks.{IsLogAsked};
 ghost use Rattle.shared_registry.specs.Follows.{Follows};
 ghost use Rattle.shared_desk.specs.Asks.{AppendsOrderIn, AppendsOrdersIn};
-ghost use Rattle.shared_desk.specs.Refusals.{fault_behind};
-ghost use Rattle.shared_desk.specs.Server.{EndsBeside, EndsConnections, EndsOver, IfVisited, IsToldAt, IsToldLast, IsTurnedAwayAt, ends_by, served_in, stop_to_end, stop_in};
+ghost use Rattle.shared_desk.specs.Refusals.{fault_behind_stop};
+ghost use Rattle.shared_desk.specs.Server.{EndsBeside, EndsConnectionsOverLog, EndsOver, IfVisitedOverLog, IsToldOverLogAt, IsToldLast, IsTurnedAwayOverLogAt, ends_by, served_in, stop_to_end, stop_in_server};
 
 use crate::refusal::may_pass;
 use crate::serve::{Turn, serve_message};
@@ -74,15 +74,15 @@ fn serve_beside<C: Connections, S: Alter, L: Log>(
     cursor: &mut Cursor<L>,
     cache: &mut Cache,
 ) -> Result<(), SharedStop>
-    ensures visited { IfVisited result ((visit : Visit)
+    ensures visited { IfVisitedOverLog result ((visit : Visit)
         × IsVisit C.opens C.closes C.Reader.remaining C.Reader.failures C.Writer.contents C.Writer.failures connections.old connections.new visit
-        × IsToldAt visit (stop_in result)
+        × IsToldOverLogAt visit (stop_in_server result)
         × ((lines : L → LogLines) → KeepsLines L.Log lines → (h : History) → Follows L.Log lines registry.old cursor.old h → HasCleanDisk (state_of registry.new) → AreTextsOf h cache.old
-        → EndsBeside L.Log lines cursor.old registry.new cursor.new h visit cache.new (stop_in result))
-        × (is_poisoned registry.old ≡ true → IsTurnedAwayAt visit × (registry.new ≡ registry.old) × (cursor.new ≡ cursor.old))
+        → EndsBeside L.Log lines cursor.old registry.new cursor.new h visit cache.new (stop_in_server result))
+        × (is_poisoned registry.old ≡ true → IsTurnedAwayOverLogAt visit × (registry.new ≡ registry.old) × (cursor.new ≡ cursor.old))
         × ((lines : L → LogLines) → KeepsLines L.Log lines → (h : History) → Follows L.Log lines registry.old cursor.old h → HasCleanDisk (state_of registry.new)
         → IsLogAsked L.Log (AppendsOrderIn (lines cursor.new.log) h visit.bytes) cursor.old.log cursor.new.log)) }
-    ensures notes { NotesForeign registry.old registry.new (fault_behind (stop_in result)) }
+    ensures notes { NotesForeign registry.old registry.new (fault_behind_stop (stop_in_server result)) }
     ensures none { result ≡ Err SharedStop.Connections → C.fails connections.old connections.new × (registry.new ≡ registry.old) × (cursor.new ≡ cursor.old) }
     ensures endures { Endures (state_of registry.old) (state_of registry.new) }
 {
@@ -135,16 +135,16 @@ pub fn serve_shared<C: Connections, S: Alter, L: Log>(
 ) -> Result<(), SharedStop>
     ensures served { (visits : List Visit) × (middle : C)
         × HaveVisited C.opens C.closes C.Reader.remaining C.Reader.failures C.Writer.contents C.Writer.failures connections.old middle visits
-        × EndsConnections C.fails middle connections.new result
+        × EndsConnectionsOverLog C.fails middle connections.new result
         × (length visits ≤ count) × OnOk result (length visits ≡ count)
-        × IsToldLast visits (stop_in result)
+        × IsToldLast visits (stop_in_server result)
         × ((lines : L → LogLines) → KeepsLines L.Log lines → (h : History) → Follows L.Log lines registry.old cursor.old h → HasCleanDisk (state_of registry.new)
-        → EndsOver L.Log lines cursor.old registry.new cursor.new h visits (stop_in result))
-        × (is_poisoned registry.old ≡ true → All IsTurnedAwayAt visits × (registry.new ≡ registry.old) × (cursor.new ≡ cursor.old))
+        → EndsOver L.Log lines cursor.old registry.new cursor.new h visits (stop_in_server result))
+        × (is_poisoned registry.old ≡ true → All IsTurnedAwayOverLogAt visits × (registry.new ≡ registry.old) × (cursor.new ≡ cursor.old))
         × ((lines : L → LogLines) → KeepsLines L.Log lines → (h : History) → Follows L.Log lines registry.old cursor.old h → HasCleanDisk (state_of registry.new)
         → IsLogAsked L.Log (AppendsOrdersIn (lines cursor.new.log) h visits) cursor.old.log cursor.new.log) }
     // Whatever the store holds: the rows of no history are noted.
-    ensures notes { NotesForeign registry.old registry.new (fault_behind (stop_in result)) }
+    ensures notes { NotesForeign registry.old registry.new (fault_behind_stop (stop_in_server result)) }
     ensures endures { Endures (state_of registry.old) (state_of registry.new) }
 {
     let mut routes = Routes::new();

@@ -8,7 +8,7 @@ use Rattle.registry_desk.proofs.CacheLemmas.{none_are}
 use Rattle.registry_desk.proofs.ServerLemmas.{length_more, visited_more}
 use Rattle.shared_registry.proofs.AskLemmas.{asked_nothing}
 use Rattle.shared_desk.specs.Asks.{AppendsOrdersIn}
-use Rattle.shared_desk.specs.Server.{IsTurnedAwayAt}
+use Rattle.shared_desk.specs.Server.{IsTurnedAwayOverLogAt}
 use Rattle.shared_desk.proofs.ServerLemmas.{all_more, ended_by, ends_after, follows_more}
 use Rattle.shared_desk.proofs.TurnLemmas.{asked_more}
 use Rattle.shared_desk.proofs.server.serve_shared.Goals as goal
@@ -16,7 +16,7 @@ use Rattle.shared_desk.proofs.server.serve_shared.Goals as goal
 pub loop-init : goal.loop-init
 loop-init g c = record {
   endures = search rules;
-  served = ([], refl, refl, λ lines kept h follows clean. (h, (refl, refl), follows, none_are h c.new-cache.result c.new-cache.ensures), λ poisoned. (All-nil IsTurnedAwayAt, refl, refl), λ lines kept h follows clean. asked_nothing g.L.Log (AppendsOrdersIn (lines c.args.cursor.now.log) h []) c.args.cursor.now.log);
+  served = ([], refl, refl, λ lines kept h follows clean. (h, (refl, refl), follows, none_are h c.new-cache.result c.new-cache.ensures), λ poisoned. (All-nil IsTurnedAwayOverLogAt, refl, refl), λ lines kept h follows clean. asked_nothing g.L.Log (AppendsOrdersIn (lines c.args.cursor.now.log) h []) c.args.cursor.now.log);
   notes = refl;
 }
 
@@ -37,7 +37,7 @@ loop-preserved g c =
         λ poisoned.
             let away = so_far.4 poisoned in
             let one = came.4 (subst (λ r. is_poisoned r ≡ true) (sym away.1) poisoned) in
-            (all_more IsTurnedAwayAt so_far.0 came.0 away.0 one.0, one.1 ∙ away.1, one.2 ∙ away.2),
+            (all_more IsTurnedAwayOverLogAt so_far.0 came.0 away.0 one.0, one.1 ∙ away.1, one.2 ∙ away.2),
         λ lines kept h follows clean.
             let early : HasCleanDisk (state_of c.loop.registry) = omega (arith, c.serve_beside.ensures.endures.clean, clean) in
             let before = so_far.3 lines kept h follows early in

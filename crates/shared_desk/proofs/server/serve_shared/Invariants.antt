@@ -8,7 +8,7 @@ use Rattle.shared_log.specs.Calls.{KeepsLines, LogLines}
 use Rattle.shared_registry.specs.Asks.{IsLogAsked}
 use Rattle.shared_registry.specs.Follows.{Follows}
 use Rattle.shared_desk.specs.Asks.{AppendsOrdersIn}
-use Rattle.shared_desk.specs.Server.{IsTurnedAwayAt}
+use Rattle.shared_desk.specs.Server.{IsTurnedAwayOverLogAt}
 use Rattle.shared_desk.proofs.ServerLemmas.{FollowsBeside}
 use Rattle.shared_desk.proofs.server.serve_shared.Given as goal
 
@@ -21,7 +21,7 @@ invariant-loop g l = record {
       × HaveVisited g.C.Connections.opens g.C.Connections.closes g.C.Reader.Source.remaining g.C.Reader.Source.failures g.C.Writer.Sink.contents g.C.Writer.Sink.failures l.initial.connections l.connections visits
       × (length visits ≡ l.counter)
       × ((lines : g.row.L.Denot → LogLines) → KeepsLines g.L.Log lines → (h : History) → Follows g.L.Log lines l.initial.registry l.initial.cursor h → HasCleanDisk (state_of l.registry) → FollowsBeside g.L.Log lines l.initial.cursor h l.registry l.cursor l.cache visits)
-      × (is_poisoned l.initial.registry ≡ true → All IsTurnedAwayAt visits × (l.registry ≡ l.initial.registry) × (l.cursor ≡ l.initial.cursor))
+      × (is_poisoned l.initial.registry ≡ true → All IsTurnedAwayOverLogAt visits × (l.registry ≡ l.initial.registry) × (l.cursor ≡ l.initial.cursor))
       × ((lines : g.row.L.Denot → LogLines) → KeepsLines g.L.Log lines → (h : History) → Follows g.L.Log lines l.initial.registry l.initial.cursor h → HasCleanDisk (state_of l.registry) → IsLogAsked g.L.Log (AppendsOrdersIn (lines l.cursor.log) h visits) l.initial.cursor.log l.cursor.log);
   notes : NotesForeign l.initial.registry l.registry None;
 }
