@@ -30,8 +30,8 @@ use Rattle.shared_registry.specs.declared.stop.ShareStop.{ShareStop}
 use Rattle.shared_registry.proofs.LineLemmas.{leads_nowhere, leads_on}
 use Rattle.shared_commands.specs.declared.answering.AnswerStop.{AnswerStop}
 use Rattle.shared_commands.specs.declared.answering.AnswerStop.TheVariants as stops
-use Rattle.shared_commands.specs.Answered.{HasAnsweredSome, IsCut}
-use Rattle.shared_commands.specs.Applied.{Did, DidApply, DidNothing, EndsRun}
+use Rattle.shared_commands.specs.Answered.{HasAnsweredSome, IsCutOverLog}
+use Rattle.shared_commands.specs.Applied.{Did, DidApply, DidNothing, EndsRunOverLog}
 use Rattle.shared_commands.specs.Imported.{DidImport, EndsOne}
 use Rattle.shared_commands.proofs.AnswerLemmas.{answered_leads}
 use Rattle.registry_program.specs.declared.host.Host as host
@@ -80,7 +80,7 @@ module _ {S L : Type 0} {g : Ghosts S} (l : log.Ghosts L) (it : Did S g L) where
     fault_at (stops.Share stop) = fault_of_stop stop
     fault_at (stops.Output failure) = None
 
-    cut_over : (c : Cursor L) (x : History) (r : Request) (text text_new : Option (List ℕ)) (stop : AnswerStop) → IsCut l lines it.new it.to c x r text text_new stop → Over (fault_at stop) x
+    cut_over : (c : Cursor L) (x : History) (r : Request) (text text_new : Option (List ℕ)) (stop : AnswerStop) → IsCutOverLog l lines it.new it.to c x r text text_new stop → Over (fault_at stop) x
     cut_over c x r text text_new (stops.Share why) cut = left_over l lines it.new it.to clean c x why cut.0
     cut_over c x r text text_new (stops.Output failure) cut = answered_over c x r cut.0 cut.1
 
@@ -89,7 +89,7 @@ module _ {S L : Type 0} {g : Ghosts S} (l : log.Ghosts L) (it : Did S g L) where
         over_earlier l lines it.new it.to clean h some.last (fault_at stop) (answered_leads l lines it.from h some.done some.replies some.place some.last some.answered)
         (cut_over some.place some.last some.next some.middle it.out.new.contents stop some.stopped)
 
-    run_over : (rs : List Request) (end : Result ExitStatus ShareStop) → EndsRun l it rs end → Over (fault_in_call end) h
+    run_over : (rs : List Request) (end : Result ExitStatus ShareStop) → EndsRunOverLog l it rs end → Over (fault_in_call end) h
     run_over rs (Ok Success) run =
         let all = run.2 lines kept h follows clean in
         following_over l lines it.new it.to clean h None (all.next, answered_leads l lines it.from h rs all.replies it.to all.next all.answered, all.follows)

@@ -21,7 +21,7 @@ use Rattle.shared_registry.specs.Follows.{Follows, IsAnsweredOverLog}
 use Rattle.shared_registry.specs.declared.cursor.Cursor.{Cursor}
 use Rattle.shared_registry.proofs.LineLemmas.{leads_nowhere, leads_on}
 use Rattle.shared_commands.specs.declared.answering.AnswerStop.{AnswerStop}
-use Rattle.shared_commands.specs.Answered.{AreAnswered, HasAnswered, HasAnsweredSome, HasReplied, IsAnsweredBy, IsCut}
+use Rattle.shared_commands.specs.Answered.{AreAnswered, HasAnsweredAll, HasAnsweredSome, HasReplied, IsAnsweredBy, IsCutOverLog}
 
 -- ---- lists
 
@@ -78,14 +78,14 @@ module _ {S : Type 0} {g : Ghosts S} {L : Type 0} (l : LogGhosts L) (lines : L �
       record { before = answered.before; leads = answered.leads; whole = answered.whole; reply_is = answered.reply_is; next_is = refl; of_machine = answered.follows.of_machine; asks = asks }
 
   -- before the first request
-  pub none_answered : (it : Registry S g) (c : Cursor L) (h : History) (out : Sunk) → Follows l lines it c h → HasAnswered l lines it c c h [] (record { old = out; new = out })
+  pub none_answered : (it : Registry S g) (c : Cursor L) (h : History) (out : Sunk) → Follows l lines it c h → HasAnsweredAll l lines it c c h [] (record { old = out; new = out })
   none_answered it c h out follows = record { replies = []; next = h; answered = (refl, refl, refl); follows = follows; written = appends_nil out.contents }
 
   module _ (c : Cursor L) (h : History) (rs : List Request) (i : ℕ) (r : Request) (lt : i < length rs) (is : r ≡ get_or rs i r) (it_mid : Registry S g) (c_mid : Cursor L) (first middle last : Sunk)
-      (so_far : HasAnswered l lines it_mid c_mid c h (take i rs) (record { old = first; new = middle })) (it : Registry S g) (c_new : Cursor L)
+      (so_far : HasAnsweredAll l lines it_mid c_mid c h (take i rs) (record { old = first; new = middle })) (it : Registry S g) (c_new : Cursor L)
       (asks : IsLogAsked l (AppendsRequest (lines c_new.log) so_far.next r) c_mid.log c_new.log) where
     -- one more request is answered
-    pub one_answered : (status : ExitStatus) → HasReplied l lines it c_new c_mid so_far.next r (record { old = middle; new = last }) status → HasAnswered l lines it c_new c h (take (i + 1) rs) (record { old = first; new = last })
+    pub one_answered : (status : ExitStatus) → HasReplied l lines it c_new c_mid so_far.next r (record { old = middle; new = last }) status → HasAnsweredAll l lines it c_new c h (take (i + 1) rs) (record { old = first; new = last })
     one_answered status replied =
         let by = of_answered c_mid it c_new so_far.next r replied.reply replied.answered asks in
         let next = after_one replied.answered.before r in
@@ -99,7 +99,7 @@ module _ {S : Type 0} {g : Ghosts S} {L : Type 0} (l : LogGhosts L) (lines : L �
         }
 
     -- the next one is not
-    pub some_answered : (stop : AnswerStop) → IsCut l lines it c_new c_mid so_far.next r middle.contents last.contents stop → HasAnsweredSome l lines it c_new c h rs (record { old = first; new = last }) stop
+    pub some_answered : (stop : AnswerStop) → IsCutOverLog l lines it c_new c_mid so_far.next r middle.contents last.contents stop → HasAnsweredSome l lines it c_new c h rs (record { old = first; new = last }) stop
     some_answered stop cut = record {
       done = take i rs;
       next = r;

@@ -26,10 +26,10 @@ use Rattle.shared_commands.specs.declared.answering.AnswerStop.{AnswerStop}
 use Rattle.shared_commands.specs.declared.answering.AnswerStop.TheVariants as stops
 
 -- the fault of a registry that stopped a call, if one did
-abbrev pub fault_behind : {A : Type 0} → Result A AnswerStop → Option Fault
-fault_behind (Ok it) = None
-fault_behind (Err (stops.Share stop)) = fault_of_stop stop
-fault_behind (Err (stops.Output failure)) = None
+abbrev pub fault_behind_answer : {A : Type 0} → Result A AnswerStop → Option Fault
+fault_behind_answer (Ok it) = None
+fault_behind_answer (Err (stops.Share stop)) = fault_of_stop stop
+fault_behind_answer (Err (stops.Output failure)) = None
 
 -- What a stop says of the writes. If a line was cut, memory ran out for it, or one write failed. No other write did.
 abbrev pub TellsWrites : ℕ → ℕ → AnswerStop → Type 0
@@ -70,14 +70,14 @@ module _ {S : Type 0} {g : Ghosts S} {L : Type 0} (l : LogGhosts L) (lines : L �
 
   -- Why there is no reply line, from this text on: the registry did not go on with its log, and nothing is written; or the request is
   -- answered, and a prefix of its line is written, which is empty if memory ran out.
-  abbrev pub IsCut : Cursor L → History → Request → Option (List ℕ) → Option (List ℕ) → AnswerStop → Type 0
-  IsCut c h r text text_new (stops.Share stop) = IsLeft l lines c it_new c_new h stop × (text_new ≡ text)
-  IsCut c h r text text_new (stops.Output failure) =
+  abbrev pub IsCutOverLog : Cursor L → History → Request → Option (List ℕ) → Option (List ℕ) → AnswerStop → Type 0
+  IsCutOverLog c h r text text_new (stops.Share stop) = IsLeft l lines c it_new c_new h stop × (text_new ≡ text)
+  IsCutOverLog c h r text text_new (stops.Output failure) =
       (reply : Reply) × IsAnsweredOverLog l lines c it_new c_new h r reply × AppendsPrefix text text_new (reply_line reply) × (failure ≡ Memory → text_new ≡ text)
 
   module _ (c : Cursor L) (h : History) (rs : List Request) (out : Output) where
     -- all requests are answered, their reply lines are written, and the registry follows the log with them
-    pub record HasAnswered : Type 0 where
+    pub record HasAnsweredAll : Type 0 where
       pub replies : List Reply
       pub next : History
       pub answered : AreAnswered l lines c h rs replies c_new next
@@ -97,5 +97,5 @@ module _ {S : Type 0} {g : Ghosts S} {L : Type 0} (l : LogGhosts L) (lines : L �
       pub answered : AreAnswered l lines c h done replies place last
       pub middle : Option (List ℕ)
       pub written : Appends out.old.contents middle (reply_lines replies)
-      pub stopped : IsCut place last next middle out.new.contents stop
+      pub stopped : IsCutOverLog place last next middle out.new.contents stop
       pub asks : IsLogAsked l (AppendsRequest (lines c_new.log) last next) place.log c_new.log

@@ -21,7 +21,7 @@ use Rattle.shared_registry.specs.Lines.{fault_in_call}
 use Rattle.shared_registry.specs.declared.cursor.Cursor.{Cursor}
 use Rattle.shared_registry.specs.declared.stop.ShareStop.{ShareStop}
 use Rattle.shared_commands.specs.declared.answering.AnswerStop.TheVariants as stops
-use Rattle.shared_commands.specs.Answered.{HasAnswered, HasAnsweredSome, TellsWrites}
+use Rattle.shared_commands.specs.Answered.{HasAnsweredAll, HasAnsweredSome, TellsWrites}
 
 -- what a command over a log did: its registry, its place in the log and its outputs before it and after it, and how it ended
 pub record Did (S : Type 0) (g : Ghosts S) (L : Type 0) : Type 0 where
@@ -58,17 +58,17 @@ module _ {S : Type 0} {g : Ghosts S} {L : Type 0} (l : LogGhosts L) (it : Did S 
   FollowedWith Then = (lines : L → LogLines) → KeepsLines l lines → (h : History) → Follows l lines it.old it.from h → HasCleanDisk (state_of it.new) → Then lines h
 
   -- how requests were answered: all of them; up to one whose line was cut, which is printed; or up to one that was stopped, which is not
-  abbrev pub EndsRun : List Request → Result ExitStatus ShareStop → Type 0
-  EndsRun rs (Ok Success) = (it.errors.new ≡ it.errors.old) × (it.out.new.failures ≡ it.out.old.failures) × FollowedWith (λ lines h. HasAnswered l lines it.new it.to it.from h rs it.out)
-  EndsRun rs (Ok Failed) = (failure : Failure) × TellsWrites it.out.old.failures it.out.new.failures (stops.Output failure) × Prints it.errors (failure_line failure)
+  abbrev pub EndsRunOverLog : List Request → Result ExitStatus ShareStop → Type 0
+  EndsRunOverLog rs (Ok Success) = (it.errors.new ≡ it.errors.old) × (it.out.new.failures ≡ it.out.old.failures) × FollowedWith (λ lines h. HasAnsweredAll l lines it.new it.to it.from h rs it.out)
+  EndsRunOverLog rs (Ok Failed) = (failure : Failure) × TellsWrites it.out.old.failures it.out.new.failures (stops.Output failure) × Prints it.errors (failure_line failure)
       × FollowedWith (λ lines h. HasAnsweredSome l lines it.new it.to it.from h rs it.out (stops.Output failure))
-  EndsRun rs (Ok Rejected) = ⊥
-  EndsRun rs (Err stop) = (it.errors.new ≡ it.errors.old) × (it.out.new.failures ≡ it.out.old.failures)
+  EndsRunOverLog rs (Ok Rejected) = ⊥
+  EndsRunOverLog rs (Err stop) = (it.errors.new ≡ it.errors.old) × (it.out.new.failures ≡ it.out.old.failures)
       × FollowedWith (λ lines h. HasAnsweredSome l lines it.new it.to it.from h rs it.out (stops.Share stop))
 
   -- These requests were answered, or some of them. A poisoned registry acts on none.
   pub record DidRun (rs : List Request) : Type 0 where
-    pub ends : EndsRun rs it.end
+    pub ends : EndsRunOverLog rs it.end
     pub when_poisoned : is_poisoned it.old ≡ true → (it.new ≡ it.old) × (it.to ≡ it.from) × (it.out.new.contents ≡ it.out.old.contents)
     pub notes : NotesForeign it.old it.new (fault_in_call it.end)
     pub endures : Endures (state_of it.old) (state_of it.new)

@@ -22,7 +22,7 @@ use Rattle.shared_registry.specs.Asks.{AppendsRequest, IsLogAsked}
 use Rattle.shared_registry.specs.Lines.{fault_in_call}
 use Rattle.shared_registry.specs.declared.stop.ShareStop.{ShareStop}
 use Rattle.shared_commands.specs.declared.answering.AnswerStop.TheVariants as stops
-use Rattle.shared_commands.specs.Answered.{HasReplied, IsCut, TellsWrites}
+use Rattle.shared_commands.specs.Answered.{HasReplied, IsCutOverLog, TellsWrites}
 use Rattle.shared_commands.specs.Applied.{Did, DidNothing, FollowedWith}
 
 -- why no list was read, in these bytes: they are not one; or the input failed, or memory ran out
@@ -36,9 +36,9 @@ module _ {S : Type 0} {g : Ghosts S} {L : Type 0} (l : LogGhosts L) (it : Did S 
   EndsOne r (Ok status) =
       ((it.errors.new ≡ it.errors.old) × (it.out.new.failures ≡ it.out.old.failures) × FollowedWith l it (λ lines h. HasReplied l lines it.new it.to it.from h r it.out status))
       ⊎ ((status ≡ Failed) × (failure : Failure) × TellsWrites it.out.old.failures it.out.new.failures (stops.Output failure) × Prints it.errors (failure_line failure)
-      × FollowedWith l it (λ lines h. IsCut l lines it.new it.to it.from h r it.out.old.contents it.out.new.contents (stops.Output failure)))
+      × FollowedWith l it (λ lines h. IsCutOverLog l lines it.new it.to it.from h r it.out.old.contents it.out.new.contents (stops.Output failure)))
   EndsOne r (Err stop) = (it.errors.new ≡ it.errors.old) × (it.out.new ≡ it.out.old)
-      × FollowedWith l it (λ lines h. IsCut l lines it.new it.to it.from h r it.out.old.contents it.out.new.contents (stops.Share stop))
+      × FollowedWith l it (λ lines h. IsCutOverLog l lines it.new it.to it.from h r it.out.old.contents it.out.new.contents (stops.Share stop))
 
   -- This request was answered, or not. A poisoned registry does not act on it.
   pub record DidOne (r : Request) : Type 0 where

@@ -10,7 +10,7 @@ ghost use Rattle.shared_registry.specs.Asks.{AppendsRequest, IsLogAsked};
 ghost use Rattle.shared_registry.specs.Follows.{Follows};
 ghost use Rattle.shared_registry.specs.declared.stop.ShareStop.TheVariants as shares;
 ghost use Rattle.shared_commands.specs.declared.answering.AnswerStop.TheVariants as stops;
-ghost use Rattle.shared_commands.specs.Answered.{HasAnswered, HasAnsweredSome, HasReplied, IsCut, IsSilentAt, TellsWrites, fault_behind};
+ghost use Rattle.shared_commands.specs.Answered.{HasAnsweredAll, HasAnsweredSome, HasReplied, IsCutOverLog, IsSilentAt, TellsWrites, fault_behind_answer};
 
 use byte_streams::Sink;
 use registry_commands::{ExitStatus, Failure, exit_status_of, put_reply};
@@ -41,14 +41,14 @@ pub(crate) fn answer<S: Alter, L: Log, W: Sink>(
     ensures ok { (lines : L → LogLines) → KeepsLines L.Log lines → (h : History) → Follows L.Log lines registry.old cursor.old h → HasCleanDisk (state_of registry.new)
         → IfOk result (HasReplied L.Log lines registry.new cursor.new cursor.old h request.now (output_of W.Sink output.old output.new)) }
     ensures err { (lines : L → LogLines) → KeepsLines L.Log lines → (h : History) → Follows L.Log lines registry.old cursor.old h → HasCleanDisk (state_of registry.new)
-        → IfErr result (IsCut L.Log lines registry.new cursor.new cursor.old h request.now (W.contents output.old) (W.contents output.new)) }
+        → IfErr result (IsCutOverLog L.Log lines registry.new cursor.new cursor.old h request.now (W.contents output.old) (W.contents output.new)) }
     ensures asks { (lines : L → LogLines) → KeepsLines L.Log lines → (h : History) → Follows L.Log lines registry.old cursor.old h → HasCleanDisk (state_of registry.new)
         → IsLogAsked L.Log (AppendsRequest (lines cursor.new.log) h request.now) cursor.old.log cursor.new.log }
     ensures when_poisoned { is_poisoned registry.old ≡ true → (result ≡ Err (stops.Share (shares.Registry Fault.Poisoned))) × (registry.new ≡ registry.old) × (cursor.new ≡ cursor.old) }
     ensures kept { OnOk result (W.failures output.new ≡ W.failures output.old) }
     ensures writes { IfErr result (TellsWrites (W.failures output.old) (W.failures output.new)) }
     ensures silent { IfErr result (IsSilentAt (output_of W.Sink output.old output.new)) }
-    ensures notes { NotesForeign registry.old registry.new (fault_behind result) }
+    ensures notes { NotesForeign registry.old registry.new (fault_behind_answer result) }
     ensures endures { Endures (state_of registry.old) (state_of registry.new) }
 {
     match act(registry, cursor, request) {
@@ -70,13 +70,13 @@ pub(crate) fn answer_all<S: Alter, L: Log, W: Sink>(
     output: &mut W,
 ) -> Result<(), AnswerStop>
     ensures ok { (lines : L → LogLines) → KeepsLines L.Log lines → (h : History) → Follows L.Log lines registry.old cursor.old h → HasCleanDisk (state_of registry.new)
-        → OnOk result (HasAnswered L.Log lines registry.new cursor.new cursor.old h requests.now (output_of W.Sink output.old output.new)) }
+        → OnOk result (HasAnsweredAll L.Log lines registry.new cursor.new cursor.old h requests.now (output_of W.Sink output.old output.new)) }
     ensures err { (lines : L → LogLines) → KeepsLines L.Log lines → (h : History) → Follows L.Log lines registry.old cursor.old h → HasCleanDisk (state_of registry.new)
         → IfErr result (HasAnsweredSome L.Log lines registry.new cursor.new cursor.old h requests.now (output_of W.Sink output.old output.new)) }
     ensures when_poisoned { is_poisoned registry.old ≡ true → (registry.new ≡ registry.old) × (cursor.new ≡ cursor.old) × (W.contents output.new ≡ W.contents output.old) }
     ensures kept { OnOk result (W.failures output.new ≡ W.failures output.old) }
     ensures writes { IfErr result (TellsWrites (W.failures output.old) (W.failures output.new)) }
-    ensures notes { NotesForeign registry.old registry.new (fault_behind result) }
+    ensures notes { NotesForeign registry.old registry.new (fault_behind_answer result) }
     ensures endures { Endures (state_of registry.old) (state_of registry.new) }
 {
     for request in requests {

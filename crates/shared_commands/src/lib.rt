@@ -8,7 +8,7 @@
 //! Each request is answered as `act` of `shared_registry` answers it: its reply is that of a history
 //! which was the whole log at some instant of its call (`IsAnsweredBy`), and the log has the record of
 //! the history after it. Its line is written before the next request is acted on (`AreAnswered`,
-//! `HasAnswered`). No other line is appended to the log than that of the request whose turn it is, with its
+//! `HasAnsweredAll`). No other line is appended to the log than that of the request whose turn it is, with its
 //! reply (`AppendsRequest`).
 //!
 //! # What stops a command
@@ -16,7 +16,7 @@
 //! A command that the registry or the log stops returns why (`ShareStop`), and has printed nothing of
 //! it. `HasAnsweredSome` says which requests were answered before, and that each history that a crash
 //! may leave begins the log. An output that fails, or a lack of memory for a reply line, is printed, and
-//! its request was answered (`IsCut`): sent again under its key it gets the same reply.
+//! its request was answered (`IsCutOverLog`): sent again under its key it gets the same reply.
 //!
 //! An input that is not a list of requests, or no list, is told as `apply_lines` and `import_list` tell
 //! it. Then nothing was acted on, and no call of the log was made.

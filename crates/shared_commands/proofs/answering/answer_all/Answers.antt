@@ -9,7 +9,7 @@ use Rattle.registry_commands.proofs.ApplyLemmas.{endures_itself}
 use Rattle.shared_registry.specs.declared.stop.ShareStop.TheVariants as shares
 use Rattle.shared_commands.specs.declared.answering.AnswerStop.TheVariants as stops
 use Rattle.shared_registry.proofs.LineLemmas.{clean_first, endures_then}
-use Rattle.shared_commands.specs.Answered.{HasAnswered, TellsWrites}
+use Rattle.shared_commands.specs.Answered.{HasAnsweredAll, TellsWrites}
 use Rattle.shared_commands.proofs.AnswerLemmas.{none_answered, one_answered, some_answered}
 use Rattle.shared_commands.proofs.answering.answer_all.Goals as goal
 
@@ -39,7 +39,7 @@ pub returns-clause-ok : goal.returns-clause-ok
 returns-clause-ok g c lines kept h follows clean =
     let end = c.loop-request-test.false in
     let all : take c.loop-request.request-index c.args.requests.now ≡ c.args.requests.now = take_all c.loop-request.request-index c.args.requests.now (omega (arith, end)) in
-    subst (λ (rs : List Request). HasAnswered g.L.Log lines c.loop-request.registry c.loop-request.cursor c.args.cursor.now h rs (output_of g.W.Sink c.args.output.now c.loop-request.output)) all
+    subst (λ (rs : List Request). HasAnsweredAll g.L.Log lines c.loop-request.registry c.loop-request.cursor c.args.cursor.now h rs (output_of g.W.Sink c.args.output.now c.loop-request.output)) all
     (c.loop-request.invariant.so_far lines kept h follows clean)
 
 pub returns-in-Err-clause-err : goal.returns-in-Err-clause-err
