@@ -8,7 +8,7 @@ use Rattle.registry_rules.specs.Verdict.{verdict}
 use Rattle.registry_rules.specs.declared.order.Request.{Request}
 use Rattle.registry_rules.specs.declared.verdict.Verdict.{Verdict}
 use Rattle.registry_rules.specs.declared.verdict.Verdict.TheVariants.{Kept, Refused, New}
-use Rattle.registry_commands.specs.Replayed.{Continues, HasAnother, HasDigest, IsAnother}
+use Rattle.registry_commands.specs.Replayed.{IsDigestAfter, HasAnother, HasDigest, IsAnother}
 
 -- the requests before are valid, if those with one more are
 valid_before : (h : History) (r : Request) → AreValid (after_one h r).deeds → AreValid h.deeds
@@ -20,7 +20,7 @@ valid_before h r = go (verdict h r)
     go (New deed) valid = All-tail IsValid deed h.deeds valid
 
 module _ (h : History) (r : Request) where
-  pub digest_before : (digest : Option (List ℕ)) (before : ℕ) → (AreValid h.deeds → before ≡ length h.deeds) → HasDigest before (after_one h r) digest → Continues h r digest
+  pub digest_before : (digest : Option (List ℕ)) (before : ℕ) → (AreValid h.deeds → before ≡ length h.deeds) → HasDigest before (after_one h r) digest → IsDigestAfter h r digest
   digest_before None before counted has = tt
   digest_before (Some digest) before counted has = λ valid. elim (has valid) [
     | inl none ↦ inl (none ∙ counted (valid_before h r valid))

@@ -21,7 +21,7 @@ use Rattle.registry_commands.specs.declared.messages.Failure.{Failure}
 use Rattle.registry_commands.specs.declared.messages.Failure.TheVariants.{Foreign}
 use Rattle.registry_commands.specs.Messages.{failure_of}
 use Rattle.registry_commands.specs.Failures.{IsOfOpening}
-use Rattle.registry_commands.specs.Replayed.{CommitsFirst, CommitsIfEmpty, CommitsIfOlder, IsFoundOrOpen, IsLeft, IsLeftFound, IsOpen}
+use Rattle.registry_commands.specs.Replayed.{CommitsFirst, CommitsIfEmpty, CommitsIfOlder, IsFoundOrOpen, IsLeftByOpening, IsLeftFound, IsOpen}
 use Rattle.registry_store.proofs.OpeningLemmas.{at_rest}
 
 has_meta : (vid version : ℕ) (t : Tables) (s : State) → IsLive s → IsTrue s.is_open → HasValues version vid s.now.trees t → has_meta_table s.now.schema ≡ true
@@ -89,7 +89,7 @@ if_older old new later named = elim named [
 
 module _ {S : Type 0} (g : Ghosts S) (conn : Held S) (founding : Founding) where
   module _ (there : Held S) (same : there ≡ conn) where
-    left_same : (failure : Failure) (last : Held S) → IsLeft g (CommitsIfOlder (state g conn)) conn failure last → IsLeftFound g conn founding failure last
+    left_same : (failure : Failure) (last : Held S) → IsLeftByOpening g (CommitsIfOlder (state g conn)) conn failure last → IsLeftFound g conn founding failure last
     left_same failure last is = record {
       kind = is.kind;
       idle = is.idle;
@@ -117,8 +117,8 @@ module _ {S : Type 0} (g : Ghosts S) (conn : Held S) (founding : Founding) where
     opened_there meta it is = opened_same meta it (subst (λ (c : Held S). IsOpen g c it) same is)
 
     -- the registry that is there could not be opened
-    pub left_there : (failure : Failure) (last : Held S) → IsLeft g (CommitsIfOlder (state g there)) there failure last → IsLeftFound g conn founding failure last
-    left_there failure last is = left_same failure last (subst (λ (c : Held S). IsLeft g (CommitsIfOlder (state g c)) c failure last) same is)
+    pub left_there : (failure : Failure) (last : Held S) → IsLeftByOpening g (CommitsIfOlder (state g there)) there failure last → IsLeftFound g conn founding failure last
+    left_there failure last is = left_same failure last (subst (λ (c : Held S). IsLeftByOpening g (CommitsIfOlder (state g c)) c failure last) same is)
 
   -- A founding failed. Where the connection shows a history it is left as it was.
   pub left_found : (last : Held S) (fault : Fault) (failure : Failure) → failure ≡ failure_of fault → (fault ≢ faults.Poisoned) × (fault ≢ faults.Foreign) → fault ≢ faults.Taken

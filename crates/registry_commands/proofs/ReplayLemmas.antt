@@ -29,7 +29,7 @@ use Rattle.byte_streams.specs.Streams.{FailsOnce}
 use Rattle.registry_commands.specs.Messages.{failure_of, input_failure}
 use Rattle.registry_commands.specs.Entries.{FirstSays, PassesOne, entry_in, is_followed}
 use Rattle.registry_commands.specs.RecordLines.{MayHaveLines, Passes}
-use Rattle.registry_commands.specs.Replayed.{ActsOnNone, AreContinued, Continues, ContinuesBy, GetTheirReplies, IsAnother, IsOfActing, IsOfReplay, IsRefusedFor, IsReplayOf, accepted_in, after_entry, after_lines, foreign_by, replies_of, requests_of, with_entry}
+use Rattle.registry_commands.specs.Replayed.{ActsOnNone, AreContinued, IsDigestAfter, IsContinuedBy, GetTheirReplies, IsAnother, IsOfActing, IsOfReplay, IsRefusedFor, IsReplayOf, accepted_in, after_entry, after_lines, foreign_by, replies_of, requests_of, with_entry}
 use Rattle.registry_commands.proofs.ApplyLemmas.{endures_itself}
 use Rattle.registry_commands.proofs.RecordLineLemmas.{may_have, passes_none, passes_then}
 
@@ -85,11 +85,11 @@ after_first h (Founding f) list = refl
 after_first h (Bad r) list = refl
 
 -- one more line continues the history after those before it
-pub continued_more : (h : History) (front : List (List ℕ)) (line : List ℕ) → AreContinued h front → ContinuesBy (after_lines h front) (entry_in line) → AreContinued h (front ++ line ∷ [])
+pub continued_more : (h : History) (front : List (List ℕ)) (line : List ℕ) → AreContinued h front → IsContinuedBy (after_lines h front) (entry_in line) → AreContinued h (front ++ line ∷ [])
 continued_more h [] line all last = (last, tt)
 continued_more h (first ∷ front) line all last =
     let step = after_first h (entry_in first) (accepted_in front) in
-    (all.0, continued_more (after_entry h (entry_in first)) front line all.1 (subst (λ (x : History). ContinuesBy x (entry_in line)) step last))
+    (all.0, continued_more (after_entry h (entry_in first)) front line all.1 (subst (λ (x : History). IsContinuedBy x (entry_in line)) step last))
 
 -- ---- the registry so far
 
@@ -186,7 +186,7 @@ module _ {S : Type 0} {g : Ghosts S} where
           let same : accepted_in (so_far.front ++ one.0 ∷ []) ≡ accepted_in so_far.front = with_blank so_far.front one.0 one.1 in (
             subst (λ (l : List Accepted). replies_to h (requests_of l) ≡ replies_of l) (sym same) old.0,
             subst (λ (l : List Accepted). Represents mid (after h (requests_of l))) (sym same) old.1,
-            continued_more h so_far.front one.0 old.2 (subst (ContinuesBy (after_lines h so_far.front)) (sym one.1) tt),
+            continued_more h so_far.front one.0 old.2 (subst (IsContinuedBy (after_lines h so_far.front)) (sym one.1) tt),
           );
       sound = so_far.sound;
       poisoned = λ spent. let old = so_far.poisoned spent in (old.0, with_blank so_far.front one.0 one.1 ∙ old.1);
@@ -196,7 +196,7 @@ module _ {S : Type 0} {g : Ghosts S} where
 
     -- an accepted request was acted on, and got its reply
     pub then_request : (next : Option (List ℕ)) (more : ℕ) (a : Accepted) (d : Option (List ℕ)) (new : Registry S g) → PassesOne now next (Request a d) → more ≡ count + 1
-        → ((h : History) → Represents mid h → HasCleanDisk (state_of new) → Represents new (after_one h a.request) × (reply_to h a.request ≡ Done a.reply) × Continues h a.request d)
+        → ((h : History) → Represents mid h → HasCleanDisk (state_of new) → Represents new (after_one h a.request) × (reply_to h a.request ≡ Done a.reply) × IsDigestAfter h a.request d)
         → (is_poisoned mid ≡ false) × (is_poisoned new ≡ false) → Endures (state_of mid) (state_of new) → NotesForeign mid new None → AreReplayed to_come next before more it new
     then_request next more a d new one is acted sound more_endures more_notes = record {
       front = so_far.front ++ one.0 ∷ [];
@@ -209,7 +209,7 @@ module _ {S : Type 0} {g : Ghosts S} where
           let did = acted (after_lines h so_far.front) old.1 clean in (
             replied_request h so_far.front one.0 a d one.1 old.0 did.1,
             subst (Represents new) (sym (after_request h so_far.front one.0 a d one.1)) did.0,
-            continued_more h so_far.front one.0 old.2 (subst (ContinuesBy (after_lines h so_far.front)) (sym one.1) did.2),
+            continued_more h so_far.front one.0 old.2 (subst (IsContinuedBy (after_lines h so_far.front)) (sym one.1) did.2),
           );
       sound = sound.1 ∙ sym sound.0 ∙ so_far.sound;
       poisoned = λ spent. absurd (not_poisoned sound.0 spent);

@@ -21,8 +21,8 @@ abbrev pub head_line : Head → List ℕ
 head_line head = (head_response head.count head.digest head.time).body
 
 -- the line of the head of a history
-abbrev pub head_text : History → List ℕ
-head_text h = (head_response (length h.deeds) (digest_of h) (last_time h.deeds)).body
+abbrev pub head_line_of : History → List ℕ
+head_line_of h = (head_response (length h.deeds) (digest_of h) (last_time h.deeds)).body
 
 module _ {S : Type 0} {g : Ghosts S} where
   -- The failures: out of memory for the line, or the registry is poisoned.
@@ -34,6 +34,6 @@ module _ {S : Type 0} {g : Ghosts S} where
   -- The line of the head of the history is written, whole or in part, if its requests are valid. Or nothing is written, after a
   -- failure; of a poisoned registry nothing is.
   pub record IsHeadShown (it : Registry S g) (ends : Ends) : Type 0 where
-    pub shown : ((line : List ℕ) × ((h : History) → Represents it h → AreValid h.deeds → line ≡ head_text h) × IsPrinted line ends) ⊎ IsUnprinted (IsOfHead it) ends
+    pub shown : ((line : List ℕ) × ((h : History) → Represents it h → AreValid h.deeds → line ≡ head_line_of h) × IsPrinted line ends) ⊎ IsUnprinted (IsOfHead it) ends
     pub poisoned : is_poisoned it ≡ true
         → (ends.status ≡ Failed) × (ends.out.new.contents ≡ ends.out.old.contents) × PrintsFailure (λ failure. failure ≡ Poisoned) ends.errors

@@ -56,8 +56,8 @@ pub record HasReadTo (to_come now : Option (List ℕ)) (passed : List (List ℕ)
   pub part : IsPartOfLine (unread_of it)
 
 -- All these lines were passed, and the count of the lines that were passed is this many more.
-abbrev pub HasPassed : Option (List ℕ) → Option (List ℕ) → ℕ → Unread → Type 0
-HasPassed to_come now before it = (lines : List (List ℕ)) × Passes to_come now lines × (it.lines ≡ before + length lines)
+abbrev pub HasPassedLines : Option (List ℕ) → Option (List ℕ) → ℕ → Unread → Type 0
+HasPassedLines to_come now before it = (lines : List (List ℕ)) × Passes to_come now lines × (it.lines ≡ before + length lines)
 
 -- one read failed between these counts of failures, or as many lines were passed as are counted
 abbrev pub HasFailedOrIsFull : ℕ → ℕ → Unread → Type 0

@@ -37,7 +37,7 @@ module _ {S : Type 0} {g : Ghosts S} where
   IsOfRecord it new failure = ((failure ≡ File) × NotesForeign it new None) ⊎ IsOfReading it new failure
 
   -- The record of the history is written, whole or in part, if its requests are valid; and nothing else is.
-  pub record IsRecorded (did : Effect S g) (after : Option ℕ) : Type 0 where
+  pub record IsRecordWritten (did : Effect S g) (after : Option ℕ) : Type 0 where
     pub left : IsUntouched did.old did.new
     pub ends : ((did.ends.status ≡ Success) × PrintsNothing did.ends.errors)
         ⊎ ((did.ends.status ≡ Failed) × PrintsFailure (λ failure. IsOfRecord did.old did.new failure × IsOfOutput did.ends.out.old.failures did.ends.out.new.failures failure) did.ends.errors)

@@ -43,7 +43,7 @@ use Rattle.registry_commands.specs.declared.status.ExitStatus.TheVariants.{Faile
 use Rattle.registry_commands.specs.Ends.{Output}
 use Rattle.registry_commands.specs.Failures.{IsOfOpening, Prints}
 use Rattle.registry_commands.specs.Messages.{failure_line}
-use Rattle.registry_commands.specs.RecordLines.{HasPassed, HasReadTo, MayHaveLines, Passes}
+use Rattle.registry_commands.specs.RecordLines.{HasPassedLines, HasReadTo, MayHaveLines, Passes}
 use Rattle.registry_commands.specs.Shown.{HoldsOfHistory, IsOfReading}
 use Rattle.registry_commands.specs.Stops.{TellsStop}
 
@@ -98,8 +98,8 @@ HasAnother before h None = ⊥
 HasAnother before h (Some digest) = AreValid h.deeds → (length h.deeds ≢ before) × (digest ≢ digest_of h)
 
 -- the digest in a line is that of the history with its request, if the request was accepted now
-abbrev pub Continues : History → Request → Option (List ℕ) → Type 0
-Continues h request digest = HasDigest (length h.deeds) (after_one h request) digest
+abbrev pub IsDigestAfter : History → Request → Option (List ℕ) → Type 0
+IsDigestAfter h request digest = HasDigest (length h.deeds) (after_one h request) digest
 
 -- the request was accepted now, and the digest in its line is not that of the history with it
 abbrev pub IsAnother : History → Request → Option (List ℕ) → Type 0
@@ -107,13 +107,13 @@ IsAnother h request digest = HasAnother (length h.deeds) (after_one h request) d
 
 -- how the request of a line is answered over a history
 abbrev pub IsAnsweredAs : History → Accepted → Option (List ℕ) → Answered → Type 0
-IsAnsweredAs h accepted digest Same = (reply_to h accepted.request ≡ Done accepted.reply) × Continues h accepted.request digest
+IsAnsweredAs h accepted digest Same = (reply_to h accepted.request ≡ Done accepted.reply) × IsDigestAfter h accepted.request digest
 IsAnsweredAs h accepted digest (Other reply) = reply_to h accepted.request ≡ reply
 IsAnsweredAs h accepted digest Elsewhere = (reply_to h accepted.request ≡ Done accepted.reply) × IsAnother h accepted.request digest
 
-abbrev pub ContinuesBy : History → Entry → Type 0
-ContinuesBy h (says.Accepted accepted digest) = Continues h accepted.request digest
-ContinuesBy h entry = ⊤
+abbrev pub IsContinuedBy : History → Entry → Type 0
+IsContinuedBy h (says.Accepted accepted digest) = IsDigestAfter h accepted.request digest
+IsContinuedBy h entry = ⊤
 
 abbrev pub after_entry : History → Entry → History
 after_entry h (says.Accepted accepted digest) = after_one h accepted.request
@@ -122,7 +122,7 @@ after_entry h entry = h
 -- each of these lines continues the history after those before it
 abbrev pub AreContinued : History → List (List ℕ) → Type 0
 AreContinued h [] = ⊤
-AreContinued h (line ∷ lines) = ContinuesBy h (entry_in line) × AreContinued (after_entry h (entry_in line)) lines
+AreContinued h (line ∷ lines) = IsContinuedBy h (entry_in line) × AreContinued (after_entry h (entry_in line)) lines
 
 -- ---- why a replay ends
 
@@ -261,7 +261,7 @@ module _ {S : Type 0} {g : Ghosts S} where
 
   -- All whole lines that were read were acted on, and each got the reply that it says; what was read after them is a part of a
   -- line. A poisoned registry acts on none.
-  pub record HasFollowed (to_come now : Option (List ℕ)) (unread : Unread) (it new : Registry S g) : Type 0 where
+  pub record HasFollowedLines (to_come now : Option (List ℕ)) (unread : Unread) (it new : Registry S g) : Type 0 where
     pub lines : List (List ℕ)
     pub each : All (λ line. is_followed (entry_in line) ≡ true) lines
     pub read : HasReadTo to_come now lines unread
@@ -291,8 +291,8 @@ module _ {S : Type 0} {g : Ghosts S} where
   -- made before that. After a whole replay the lines that were to come were passed and counted.
   pub record ReadsLineByLine (to_come now : Option (List ℕ)) (unread : Unread) (before failures failures_new : ℕ) (it new : Registry S g) (result : Result (Unit {0}) ReplayStop) : Type 0 where
     pub kept : result ≢ Err (stop.Failure File) → failures_new ≡ failures
-    pub waits : result ≡ Err (stop.Failure File) → HasAllLines before to_come unread ⊎ HasFollowed to_come now unread it new
-    pub passed : OnOk result (HasPassed to_come now before unread)
+    pub waits : result ≡ Err (stop.Failure File) → HasAllLines before to_come unread ⊎ HasFollowedLines to_come now unread it new
+    pub passed : OnOk result (HasPassedLines to_come now before unread)
 
   -- once the founding was checked, the lines were replayed; or that ended it
   abbrev pub ThenReplays : Option (List ℕ) → Option (List ℕ) → Unread → ℕ → ℕ → ℕ → Registry S g → Registry S g → Result (Unit {0}) ReplayStop → Result (Unit {0}) ReplayStop → Type 0
@@ -352,7 +352,7 @@ module _ {S : Type 0} (g : Ghosts S) where
   -- It could not be opened, for this failure, and at most this was committed: what the connection shows is left, in its schema or
   -- a later one. Foreign only if it shows the rows of no legal history. No transaction is left open, and nothing is done in one
   -- that was open before.
-  pub record IsLeft (Commits : Trees → Type 0) (conn : Held S) (failure : Failure) (last : Held S) : Type 0 where
+  pub record IsLeftByOpening (Commits : Trees → Type 0) (conn : Held S) (failure : Failure) (last : Held S) : Type 0 where
     pub kind : IsOfOpening failure
     pub idle : conn.in_transaction ≡ false → last.in_transaction ≡ false
     pub busy : IsTrue conn.in_transaction → (failure ≡ Store) × (last ≡ conn)
@@ -364,7 +364,7 @@ module _ {S : Type 0} (g : Ghosts S) where
   -- It could neither be founded like this nor opened. Nothing is committed in a database that has tables, unless they have the
   -- names of an older schema.
   abbrev pub IsLeftFound : Held S → Founding → Failure → Held S → Type 0
-  IsLeftFound conn founding failure last = IsLeft (CommitsFirst founding (state g conn)) conn failure last
+  IsLeftFound conn founding failure last = IsLeftByOpening (CommitsFirst founding (state g conn)) conn failure last
 
   -- Ok: the registry was founded or opened, and the record replayed over it, and so it is left. Err: neither could be done, and the
   -- connection is left. Foreign comes only where a registry might be: the database has a table meta.

@@ -8,8 +8,8 @@ ghost use Rattle.registry_rules.specs.Run.{after_one, reply_to};
 ghost use Rattle.registry_rules.specs.declared.verdict.Reply.TheVariants as replies;
 ghost use Rattle.registry_tables.specs.Rows.{newest};
 ghost use Rattle.registry_store.specs.Promise.{Endures, Leaves, NotesForeign, Represents, is_poisoned, state_of};
-ghost use Rattle.registry_commands.specs.RecordLines.{HasPassed, ahead};
-ghost use Rattle.registry_commands.specs.Replayed.{Differs, HasAllLines, HasFollowed, HasAnother, HasDigest, IsAnsweredAs, IsOfActing, IsReplayOf, foreign_by};
+ghost use Rattle.registry_commands.specs.RecordLines.{HasPassedLines, ahead};
+ghost use Rattle.registry_commands.specs.Replayed.{Differs, HasAllLines, HasFollowedLines, HasAnother, HasDigest, IsAnsweredAs, IsOfActing, IsReplayOf, foreign_by};
 
 use crate::entries::{Entry, LineRefusal, next_entry};
 use crate::messages::{Failure, failure_of, input_failure};
@@ -200,10 +200,10 @@ pub fn follow_lines<R: Source, S: Alter>(
 ) -> Result<(), ReplayStop>
     ensures replays { IsReplayOf (ahead (R.remaining source.old) unread.old) unread.old.lines (R.failures source.old) (R.failures source.new)
         registry.old registry.new result }
-    ensures passed { OnOk result (HasPassed (ahead (R.remaining source.old) unread.old) (ahead (R.remaining source.new) unread.new) unread.old.lines unread.new) }
+    ensures passed { OnOk result (HasPassedLines (ahead (R.remaining source.old) unread.old) (ahead (R.remaining source.new) unread.new) unread.old.lines unread.new) }
     ensures kept { result ≢ Err (ReplayStop.Failure Failure.File) → R.failures source.new ≡ R.failures source.old }
     ensures waits { result ≡ Err (ReplayStop.Failure Failure.File) → HasAllLines unread.old.lines (ahead (R.remaining source.old) unread.old) unread.new
-        ⊎ HasFollowed (ahead (R.remaining source.old) unread.old) (ahead (R.remaining source.new) unread.new) unread.new registry.old registry.new }
+        ⊎ HasFollowedLines (ahead (R.remaining source.old) unread.old) (ahead (R.remaining source.new) unread.new) unread.new registry.old registry.new }
 {
     loop {
         match next_entry(alloc, source, unread) {

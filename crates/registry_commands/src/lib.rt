@@ -38,11 +38,11 @@
 //!
 //! [`history`] writes the record of the history that the registry represents, if its requests are
 //! valid: the founding's line and a line for each accepted request, or those after the first n; at
-//! a failure a prefix of them (`IsRecorded`). It changes nothing. At status 0 no call found the
+//! a failure a prefix of them (`IsRecordWritten`). It changes nothing. At status 0 no call found the
 //! rows of no history, if none had before (`HidesNoForeign`), whatever the store holds.
 //!
 //! [`head`] writes the line with the head of the history that the registry represents, if its
-//! requests are valid: the body of the response to `GET /head` (`IsHeadShown`, `head_text`). It
+//! requests are valid: the body of the response to `GET /head` (`IsHeadShown`, `head_line_of`). It
 //! makes no store call. Over a poisoned registry it writes nothing and says that it is poisoned.
 //!
 //! [`check`] acts on the record of the registry over one in memory, and compares the replies, the
@@ -74,7 +74,7 @@
 //! The digest in each line that was followed is that of the history with its request, unless the
 //! request was accepted before, or a request is invalid (`AreContinued`). If a read fails, all
 //! whole lines that were read were acted on, and what was read after them is a part of a line
-//! (`HasFollowed`); and no read failed if anything else ended it. `replay` says the same
+//! (`HasFollowedLines`); and no read failed if anything else ended it. `replay` says the same
 //! (`ReadsLineByLine`), and prints what ended it, after it compared the founding with that of the
 //! registry (`IsReplayed`, `IsChecked`). Unless that is `Foreign`, no call found the rows of no
 //! history, if none had before, whatever the store holds (`notes`). Over a poisoned registry no

@@ -10,7 +10,7 @@ ghost use Rattle.registry_store.specs.Queries.{IsUntouched};
 ghost use Rattle.registry_wire.specs.Record.{accepted_line, founding_line};
 ghost use Rattle.registry_commands.specs.Ends.{effect, ends_of};
 ghost use Rattle.registry_commands.specs.Failures.{IsOfOutput};
-ghost use Rattle.registry_commands.specs.Recorded.{AreNextRequests, IsOfRecord, IsRecorded, accepted_lines, record_text};
+ghost use Rattle.registry_commands.specs.Recorded.{AreNextRequests, IsOfRecord, IsRecordWritten, accepted_lines, record_text};
 ghost use Rattle.registry_commands.specs.Shown.{HoldsOfHistory};
 
 use crate::messages::{Failure, fail, failure_of};
@@ -189,7 +189,7 @@ pub fn history<S: Alter, W: Sink, E: Sink>(
     output: &mut W,
     errors: &mut E,
 ) -> ExitStatus
-    ensures { IsRecorded (effect registry.old registry.new (ends_of W.Sink E.Sink output.old output.new errors.old errors.new result)) after }
+    ensures { IsRecordWritten (effect registry.old registry.new (ends_of W.Sink E.Sink output.old output.new errors.old errors.new result)) after }
 {
     match put_record(alloc, registry, after, output) {
         Ok(()) => ExitStatus::Success,

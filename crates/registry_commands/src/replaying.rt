@@ -6,7 +6,7 @@ ghost use Rattle.registry_schema.specs.Meta.{has_meta_table};
 ghost use Rattle.registry_wire.specs.Record.{founding_line};
 ghost use Rattle.registry_commands.specs.Ends.{output_of};
 ghost use Rattle.registry_commands.specs.RecordLines.{ahead};
-ghost use Rattle.registry_commands.specs.Replayed.{Begins, CommitsIfOlder, HasAllLines, HasReadBlank, IsChecked, IsFollowedFrom, IsFoundOrOpen, IsLeft, IsLeftFound, IsOpen, IsReplayed, IsReplayedOn};
+ghost use Rattle.registry_commands.specs.Replayed.{Begins, CommitsIfOlder, HasAllLines, HasReadBlank, IsChecked, IsFollowedFrom, IsFoundOrOpen, IsLeftByOpening, IsLeftFound, IsOpen, IsReplayed, IsReplayedOn};
 
 use crate::entries::{Entry, LineRefusal, peek};
 use crate::following::{ReplayStop, follow_lines};
@@ -147,7 +147,7 @@ fn open_there<S: Alter>(
     conn: Connection<S>,
 ) -> Result<Registry<S>, (Failure, Connection<S>)>
     ensures ok { IfOk result (IsOpen S.Store conn) }
-    ensures err { IfErr result (λ e. IsLeft S.Store (CommitsIfOlder (state S.Store conn)) conn e.0 e.1) }
+    ensures err { IfErr result (λ e. IsLeftByOpening S.Store (CommitsIfOlder (state S.Store conn)) conn e.0 e.1) }
 {
     match Registry::open(alloc, conn) {
         Ok(registry) => Ok(registry),

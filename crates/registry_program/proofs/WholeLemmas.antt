@@ -33,7 +33,7 @@ use Rattle.registry_reports.specs.declared.kinds.ReportKind.{ReportKind}
 use Rattle.registry_commands.specs.declared.status.ExitStatus.{ExitStatus}
 use Rattle.registry_commands.specs.declared.status.ExitStatus.TheVariants.{Success, Failed}
 use Rattle.registry_commands.specs.Ends.{Ends, Receives, Sunk, effect}
-use Rattle.registry_commands.specs.Heads.{head_text}
+use Rattle.registry_commands.specs.Heads.{head_line_of}
 use Rattle.registry_commands.specs.Recorded.{record_text}
 use Rattle.registry_commands.proofs.ApplyLemmas.{applied_endures}
 use Rattle.registry_desk.specs.declared.server.Connections as connections
@@ -139,7 +139,7 @@ module _ {H F I : Type 0} (m : host.Ghosts H F I) (d : disk.Ghosts F) where
       let is = over.does.1 in (is.left, λ h stands clean success. is.whole success h stands clean))
 
   pub head_whole : (old new : H) (path : List ℕ) (ends : Ends) → Runs m d old new path ends WritesHead → UnlessStopped m d old new path ends WritesHead (IsCarriedOn m d old new path (IsHeadOn ends))
-  head_whole old new path ends = show_whole old new path ends WritesHead (λ h. AreValid h.deeds → Receives ends.out (head_text h)) (λ over.
+  head_whole old new path ends = show_whole old new path ends WritesHead (λ h. AreValid h.deeds → Receives ends.out (head_line_of h)) (λ over.
       let is = over.does in (
         subst (λ (x : TheRegistry m d). IsUntouched over.it x) (sym is.1) (untouched_itself over.it),
         λ h stands clean success valid. elim is.2.shown [

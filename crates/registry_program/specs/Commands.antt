@@ -33,7 +33,7 @@ use Rattle.registry_commands.specs.Imports.{AsksFor, IsImported}
 use Rattle.registry_commands.specs.Lines.{requests_in}
 use Rattle.registry_commands.specs.LookUp.{IsLookedUp}
 use Rattle.registry_commands.specs.Messages.{failure_line}
-use Rattle.registry_commands.specs.Recorded.{IsRecorded}
+use Rattle.registry_commands.specs.Recorded.{IsRecordWritten}
 use Rattle.registry_commands.specs.Reports.{IsReported}
 use Rattle.registry_commands.specs.Shown.{IsExported}
 use Rattle.registry_commands.specs.Trial.{IsOfStart, IsTrialOf}
@@ -128,7 +128,7 @@ WritesReport name old new it after ends = (new ≡ old) × IsReported (effect it
 
 -- the record of a registry is written, or only the requests after the first ones
 abbrev pub WritesRecord : {H S : Type 0} {g : store.Ghosts S} → Option ℕ → H → H → Registry S g → Registry S g → Ends → Type 0
-WritesRecord from old new it after ends = (new ≡ old) × IsRecorded (effect it after ends) from
+WritesRecord from old new it after ends = (new ≡ old) × IsRecordWritten (effect it after ends) from
 
 -- where the record of a registry ends is written
 abbrev pub WritesHead : {H S : Type 0} {g : store.Ghosts S} → H → H → Registry S g → Registry S g → Ends → Type 0

@@ -42,7 +42,7 @@ use Rattle.registry_commands.specs.Ends.{Ends, Receives, Output}
 use Rattle.registry_commands.specs.declared.checking.Counts.{Counts}
 use Rattle.registry_commands.specs.Checks.{IsCountOf, sound_text}
 use Rattle.registry_commands.specs.Failures.{IsOfOpening, IsOfSoundRun, PrintsFailure}
-use Rattle.registry_commands.specs.Heads.{head_text}
+use Rattle.registry_commands.specs.Heads.{head_line_of}
 use Rattle.registry_commands.specs.Imports.{AsksFor, request_of_import, exit_status_of}
 use Rattle.registry_commands.specs.Lines.{requests_in}
 use Rattle.registry_commands.specs.Messages.{reply_line}
@@ -96,7 +96,7 @@ IsRecordedOn from ends h x y = Stays h x y × (ends.status ≡ Success → AreVa
 
 -- at the status Success the line of the head of the history is written, if its requests are valid
 abbrev pub IsHeadOn : Ends → History → History → History → Type 0
-IsHeadOn ends h x y = Stays h x y × (ends.status ≡ Success → AreValid h.deeds → Receives ends.out (head_text h))
+IsHeadOn ends h x y = Stays h x y × (ends.status ≡ Success → AreValid h.deeds → Receives ends.out (head_line_of h))
 
 -- A store was checked. If the requests of the history are valid: at the status Success the line with its counts is written, and at any
 -- other the error output has the message of a failure, and so none that the store is not sound.

@@ -4,13 +4,13 @@ use Rattle.registry_rules.specs.History.{History}
 use Rattle.registry_tables.specs.declared.head.Head.{Head}
 use Rattle.registry_tables.specs.Head.{IsHeadOf}
 use Rattle.registry_store.specs.declared.fault.Fault.TheVariants.{Poisoned}
-use Rattle.registry_commands.specs.Heads.{IsOfHead, head_line, head_text}
+use Rattle.registry_commands.specs.Heads.{IsOfHead, head_line, head_line_of}
 use Rattle.registry_commands.specs.Messages.{failure_of}
 use Rattle.registry_commands.proofs.ApplyLemmas.{keeps_same}
 use Rattle.registry_commands.proofs.heading.head.Goals as goal
 
 -- the line of a head is that of its history
-same_line : (h : History) (head : Head) → IsHeadOf h head → head_line head ≡ head_text h
+same_line : (h : History) (head : Head) → IsHeadOf h head → head_line head ≡ head_line_of h
 same_line h head is = rw (is.count, is.digest, is.time) refl
 
 pub returns-in-Ok : goal.returns-in-Ok
