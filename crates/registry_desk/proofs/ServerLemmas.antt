@@ -25,7 +25,7 @@ use Rattle.registry_desk.specs.Acting.{after_message, IsOfSoundRegistry, IsLeftU
 use Rattle.registry_desk.specs.Serving.{IsNext, IsServed, IsToldBy, IsTurnedAway, Sends}
 use Rattle.registry_desk.specs.declared.server.ServerStop.{ServerStop}
 use Rattle.registry_desk.specs.declared.server.ServerStop.TheVariants as stops
-use Rattle.registry_desk.specs.Server.{Visit, IsRead, IsVisit, IsToldAt, IsTurnedAwayAt, IsWritten, AreTurnedAway, HaveVisited, IsTurn, Turns, RepresentsAfter, IsServedInPart, IsStoppedServing, EndsVisit, EndsServing, IsLeftAfter, EndsConnections, IfVisited, fault_behind, fault_in, status_of}
+use Rattle.registry_desk.specs.Server.{Visit, IsRead, IsVisit, IsToldAt, IsTurnedAwayAt, IsResponseWritten, AreTurnedAway, HaveVisited, IsTurn, Turns, RepresentsAfter, IsServedInPart, IsStoppedServing, EndsVisit, EndsServing, IsLeftAfter, EndsConnections, IfVisited, fault_behind, fault_in_server, status_of}
 use Rattle.registry_desk.specs.declared.cache.Cache.{Cache}
 use Rattle.registry_desk.specs.Cache.{AreTextsAfter, AreTextsAfterVisit, AreTextsOf, no_texts}
 use Rattle.registry_desk.proofs.CacheLemmas.{none_are, texts_after_visit}
@@ -142,7 +142,7 @@ module _ {C R W : Type 0} (opens : C → C → R → W → Type 0) (closes : C �
   -- a connection was opened, this was served, and it was closed
   visit_with : (old opened new : C) (reader reader_new : R) (writer writer_new : W) (visit : Visit) (status : Option ℕ)
       → opens old opened reader writer → closes opened new reader_new writer_new status → status ≡ status_of visit.end → MayGive (remaining reader) visit.bytes
-      → IsRead remaining reads_failed reader reader_new visit → IsWritten contents writes_failed writer writer_new visit → IsVisit opens closes remaining reads_failed contents writes_failed old new visit
+      → IsRead remaining reads_failed reader reader_new visit → IsResponseWritten contents writes_failed writer writer_new visit → IsVisit opens closes remaining reads_failed contents writes_failed old new visit
   visit_with old opened new reader reader_new writer writer_new visit status opens_with closes_with status_is gives read written = record {
     opened = opened;
     reader = reader;
@@ -164,8 +164,8 @@ module _ {S C R W : Type 0} {g : Ghosts S} (opens : C → C → R → W → Type
       × HaveVisited opens closes remaining reads_failed contents writes_failed old middle visits
       × EndsConnections fails middle new result
       × (length visits ≤ count) × OnOk result (length visits ≡ count)
-      × ((h : History) → Represents first h → HasCleanDisk (state_of last) → EndsServing last h visits (fault_in result) × Leaves newest (state_of last) (IsLeftAfter h visits))
-      × (is_poisoned first ≡ true → AreTurnedAway visits (fault_in result) × (last ≡ first))
+      × ((h : History) → Represents first h → HasCleanDisk (state_of last) → EndsServing last h visits (fault_in_server result) × Leaves newest (state_of last) (IsLeftAfter h visits))
+      × (is_poisoned first ≡ true → AreTurnedAway visits (fault_in_server result) × (last ≡ first))
 
   -- a message was served between the opening and the closing of a connection
   pub visit_of : (old opened new : C) (reader reader_new : R) (writer writer_new : W) (mid last : TheRegistry S g) (cache cache_new : Cache) (served : Result Served Broken) (status : Option ℕ) (fault : Option Fault) (bytes : List ℕ)
@@ -207,17 +207,17 @@ module _ {S C R W : Type 0} {g : Ghosts S} (opens : C → C → R → W → Type
   abbrev pub CameBeside : C → C → TheRegistry S g → TheRegistry S g → Cache → Cache → Result (Unit {0}) ServerStop → Type 0
   CameBeside old new mid last cache cache_new result = IfVisited result ((visit : Visit)
       × IsVisit opens closes remaining reads_failed contents writes_failed old new visit
-      × ((h : History) → Represents mid h → HasCleanDisk (state_of last) → AreTextsOf h cache → EndsVisit last h visit (fault_in result) × AreTextsAfterVisit h visit cache_new)
-      × (is_poisoned mid ≡ true → cache ≡ no_texts → IsTurnedAwayAt visit (fault_in result) × (last ≡ mid) × (cache_new ≡ no_texts))
-      × (is_poisoned mid ≡ false → IsToldAt visit (fault_in result)))
+      × ((h : History) → Represents mid h → HasCleanDisk (state_of last) → AreTextsOf h cache → EndsVisit last h visit (fault_in_server result) × AreTextsAfterVisit h visit cache_new)
+      × (is_poisoned mid ≡ true → cache ≡ no_texts → IsTurnedAwayAt visit (fault_in_server result) × (last ≡ mid) × (cache_new ≡ no_texts))
+      × (is_poisoned mid ≡ false → IsToldAt visit (fault_in_server result)))
 
   -- the same beside no text
   pub came_alone : (old new : C) (mid last : TheRegistry S g) (cache cache_new : Cache) (result : Result (Unit {0}) ServerStop) → cache ≡ no_texts → CameBeside old new mid last cache cache_new result
       → IfVisited result ((visit : Visit)
       × IsVisit opens closes remaining reads_failed contents writes_failed old new visit
-      × ((h : History) → Represents mid h → HasCleanDisk (state_of last) → EndsVisit last h visit (fault_in result))
-      × (is_poisoned mid ≡ true → IsTurnedAwayAt visit (fault_in result) × (last ≡ mid))
-      × (is_poisoned mid ≡ false → IsToldAt visit (fault_in result)))
+      × ((h : History) → Represents mid h → HasCleanDisk (state_of last) → EndsVisit last h visit (fault_in_server result))
+      × (is_poisoned mid ≡ true → IsTurnedAwayAt visit (fault_in_server result) × (last ≡ mid))
+      × (is_poisoned mid ≡ false → IsToldAt visit (fault_in_server result)))
   came_alone old new mid last cache cache_new (Ok done) none came = (
     came.0,
     came.1,
@@ -237,7 +237,7 @@ module _ {S C R W : Type 0} {g : Ghosts S} (opens : C → C → R → W → Type
   -- a fault is told at the last connection
   pub told_last : (old middle new : C) (mid last : TheRegistry S g) (cache cache_new : Cache) (visits : List Visit) (result : Result (Unit {0}) ServerStop) (stop : ServerStop) → result ≡ Err stop
       → HaveVisited opens closes remaining reads_failed contents writes_failed old middle visits → CameBeside middle new mid last cache cache_new (Err stop) → is_poisoned mid ≡ false
-      → IfSome (fault_in result) (λ fault. (visits : List Visit) × (middle : C) × (last : Visit) × HaveVisited opens closes remaining reads_failed contents writes_failed old middle visits
+      → IfSome (fault_in_server result) (λ fault. (visits : List Visit) × (middle : C) × (last : Visit) × HaveVisited opens closes remaining reads_failed contents writes_failed old middle visits
       × IsVisit opens closes remaining reads_failed contents writes_failed middle new last × IsToldAt last (Some fault))
   told_last old middle new mid last cache cache_new visits result stops.Connections is before came sane = rw is tt
   told_last old middle new mid last cache cache_new visits result (stops.Registry fault) is before came sane = rw is (visits, middle, came.0, before, came.1, came.4 sane)

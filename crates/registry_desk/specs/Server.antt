@@ -48,8 +48,8 @@ fault_behind (Err broken) = None
 
 -- The text is a response, and it was written: all of it, with its status, or the writer failed. Nothing was written if the
 -- reader failed.
-abbrev pub IsWritten : {W : Type 0} → (W → Option (List ℕ)) → (W → ℕ) → W → W → Visit → Type 0
-IsWritten contents failures old new visit = WrittenAt visit.end
+abbrev pub IsResponseWritten : {W : Type 0} → (W → Option (List ℕ)) → (W → ℕ) → W → W → Visit → Type 0
+IsResponseWritten contents failures old new visit = WrittenAt visit.end
   where
     WrittenAt : Result Served Broken → Type 0
     WrittenAt (Ok served) = (response : Response) × (visit.text ≡ response_bytes response) × Sends contents failures old new response served.status
@@ -79,7 +79,7 @@ module _ {C R W : Type 0} (opens : C → C → R → W → Type 0) (closes : C �
     pub opens_with : opens old opened reader writer
     pub gives : MayGive (remaining reader) visit.bytes
     pub read : IsRead remaining reads_failed reader reader_new visit
-    pub written : IsWritten contents writes_failed writer writer_new visit
+    pub written : IsResponseWritten contents writes_failed writer writer_new visit
     pub status : Option ℕ
     pub status_is : status ≡ status_of visit.end
     pub closes_with : closes opened new reader_new writer_new status
@@ -175,10 +175,10 @@ module _ {S : Type 0} {g : Ghosts S} where
   EndsVisit it h visit (Some fault) = IsStoppedAtVisit it h visit fault
 
 -- the fault of the registry that stopped a server
-abbrev pub fault_in : Result (Unit {0}) ServerStop → Option Fault
-fault_in (Ok done) = None
-fault_in (Err stops.Connections) = None
-fault_in (Err (stops.Registry fault)) = Some fault
+abbrev pub fault_in_server : Result (Unit {0}) ServerStop → Option Fault
+fault_in_server (Ok done) = None
+fault_in_server (Err stops.Connections) = None
+fault_in_server (Err (stops.Registry fault)) = Some fault
 
 -- this holds if a connection came
 abbrev pub IfVisited : Result (Unit {0}) ServerStop → Type 0 → Type 0

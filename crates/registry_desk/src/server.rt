@@ -6,7 +6,7 @@ ghost use Rattle.registry_rules.specs.History.{History};
 ghost use Rattle.registry_tables.specs.Rows.{newest};
 ghost use Rattle.registry_store.specs.Promise.{Represents, Endures, Leaves, NotesForeign, is_poisoned, state_of};
 ghost use Rattle.registry_desk.specs.Faults.{server_stop_text};
-ghost use Rattle.registry_desk.specs.Server.{Visit, IsVisit, IsToldAt, IsTurnedAwayAt, AreTurnedAway, HaveVisited, EndsVisit, EndsServing, IsLeftAfter, EndsConnections, IfVisited, fault_behind, fault_in, status_of};
+ghost use Rattle.registry_desk.specs.Server.{Visit, IsVisit, IsToldAt, IsTurnedAwayAt, AreTurnedAway, HaveVisited, EndsVisit, EndsServing, IsLeftAfter, EndsConnections, IfVisited, fault_behind, fault_in_server, status_of};
 ghost use Rattle.registry_desk.specs.Cache.{AreTextsAfterVisit, AreTextsOf, no_texts};
 
 use crate::cache::Cache;
@@ -108,11 +108,11 @@ fn serve_beside<C: Connections, S: Alter>(
 ) -> Result<(), ServerStop>
     ensures visited { IfVisited result ((visit : Visit)
         × IsVisit C.opens C.closes C.Reader.remaining C.Reader.failures C.Writer.contents C.Writer.failures connections.old connections.new visit
-        × ((h : History) → Represents registry.old h → HasCleanDisk (state_of registry.new) → AreTextsOf h cache.old → EndsVisit registry.new h visit (fault_in result) × AreTextsAfterVisit h visit cache.new)
-        × (is_poisoned registry.old ≡ true → cache.old ≡ no_texts → IsTurnedAwayAt visit (fault_in result) × (registry.new ≡ registry.old) × (cache.new ≡ no_texts))
-        × (is_poisoned registry.old ≡ false → IsToldAt visit (fault_in result))) }
-    ensures goes_on { is_poisoned registry.old ≡ false → fault_in result ≡ None → is_poisoned registry.new ≡ false }
-    ensures notes { NotesForeign registry.old registry.new (fault_in result) }
+        × ((h : History) → Represents registry.old h → HasCleanDisk (state_of registry.new) → AreTextsOf h cache.old → EndsVisit registry.new h visit (fault_in_server result) × AreTextsAfterVisit h visit cache.new)
+        × (is_poisoned registry.old ≡ true → cache.old ≡ no_texts → IsTurnedAwayAt visit (fault_in_server result) × (registry.new ≡ registry.old) × (cache.new ≡ no_texts))
+        × (is_poisoned registry.old ≡ false → IsToldAt visit (fault_in_server result))) }
+    ensures goes_on { is_poisoned registry.old ≡ false → fault_in_server result ≡ None → is_poisoned registry.new ≡ false }
+    ensures notes { NotesForeign registry.old registry.new (fault_in_server result) }
     ensures none { result ≡ Err ServerStop.Connections → C.fails connections.old connections.new × (registry.new ≡ registry.old) }
     ensures endures { Endures (state_of registry.old) (state_of registry.new) }
 {
@@ -143,11 +143,11 @@ pub fn serve_next<C: Connections, S: Alter>(
 ) -> Result<(), ServerStop>
     ensures visited { IfVisited result ((visit : Visit)
         × IsVisit C.opens C.closes C.Reader.remaining C.Reader.failures C.Writer.contents C.Writer.failures connections.old connections.new visit
-        × ((h : History) → Represents registry.old h → HasCleanDisk (state_of registry.new) → EndsVisit registry.new h visit (fault_in result))
-        × (is_poisoned registry.old ≡ true → IsTurnedAwayAt visit (fault_in result) × (registry.new ≡ registry.old))
-        × (is_poisoned registry.old ≡ false → IsToldAt visit (fault_in result))) }
-    ensures goes_on { is_poisoned registry.old ≡ false → fault_in result ≡ None → is_poisoned registry.new ≡ false }
-    ensures notes { NotesForeign registry.old registry.new (fault_in result) }
+        × ((h : History) → Represents registry.old h → HasCleanDisk (state_of registry.new) → EndsVisit registry.new h visit (fault_in_server result))
+        × (is_poisoned registry.old ≡ true → IsTurnedAwayAt visit (fault_in_server result) × (registry.new ≡ registry.old))
+        × (is_poisoned registry.old ≡ false → IsToldAt visit (fault_in_server result))) }
+    ensures goes_on { is_poisoned registry.old ≡ false → fault_in_server result ≡ None → is_poisoned registry.new ≡ false }
+    ensures notes { NotesForeign registry.old registry.new (fault_in_server result) }
     ensures none { result ≡ Err ServerStop.Connections → C.fails connections.old connections.new × (registry.new ≡ registry.old) }
     ensures endures { Endures (state_of registry.old) (state_of registry.new) }
 {
@@ -184,16 +184,16 @@ pub fn serve_all<C: Connections, S: Alter>(
         × HaveVisited C.opens C.closes C.Reader.remaining C.Reader.failures C.Writer.contents C.Writer.failures connections.old middle visits
         × EndsConnections C.fails middle connections.new result
         × (length visits ≤ count) × OnOk result (length visits ≡ count)
-        × ((h : History) → Represents registry.old h → HasCleanDisk (state_of registry.new) → EndsServing registry.new h visits (fault_in result) × Leaves newest (state_of registry.new) (IsLeftAfter h visits))
-        × (is_poisoned registry.old ≡ true → AreTurnedAway visits (fault_in result) × (registry.new ≡ registry.old)) }
+        × ((h : History) → Represents registry.old h → HasCleanDisk (state_of registry.new) → EndsServing registry.new h visits (fault_in_server result) × Leaves newest (state_of registry.new) (IsLeftAfter h visits))
+        × (is_poisoned registry.old ≡ true → AreTurnedAway visits (fault_in_server result) × (registry.new ≡ registry.old)) }
     // Whatever the store holds: a fault of the registry is told at the last connection; without one
     // the registry is not poisoned, and no call of it found the rows of no history, if none had before.
-    ensures told { is_poisoned registry.old ≡ false → IfSome (fault_in result) (λ fault. (visits : List Visit) × (middle : C) × (last : Visit)
+    ensures told { is_poisoned registry.old ≡ false → IfSome (fault_in_server result) (λ fault. (visits : List Visit) × (middle : C) × (last : Visit)
         × HaveVisited C.opens C.closes C.Reader.remaining C.Reader.failures C.Writer.contents C.Writer.failures connections.old middle visits
         × IsVisit C.opens C.closes C.Reader.remaining C.Reader.failures C.Writer.contents C.Writer.failures middle connections.new last
         × IsToldAt last (Some fault)) }
-    ensures goes_on { is_poisoned registry.old ≡ false → fault_in result ≡ None → is_poisoned registry.new ≡ false }
-    ensures notes { NotesForeign registry.old registry.new (fault_in result) }
+    ensures goes_on { is_poisoned registry.old ≡ false → fault_in_server result ≡ None → is_poisoned registry.new ≡ false }
+    ensures notes { NotesForeign registry.old registry.new (fault_in_server result) }
     ensures endures { Endures (state_of registry.old) (state_of registry.new) }
 {
     let mut routes = Routes::new();

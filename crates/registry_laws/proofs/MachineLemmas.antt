@@ -23,7 +23,7 @@ use Rattle.registry_wire.specs.declared.refusal.WireRefusal.{WireRefusal}
 use Rattle.shared_log.specs.Calls.{LogLines, Grows, AppendMeans}
 use Rattle.shared_log.specs.declared.answers.AppendAnswer.TheVariants.{Appended}
 use Rattle.registry_laws.specs.Records.{IsAccepted, record_of}
-use Rattle.registry_laws.specs.Machines.{IsOfMachine, BeginsWith, LeadsTo, HaveOneHistory, HaveOneOwner, HaveEachRequest, BeginsWithAppended}
+use Rattle.registry_laws.specs.Machines.{IsOfMachine, BeginsWith, LeadsToLater, HaveOneHistory, HaveOneOwner, HaveEachRequest, BeginsWithAppended}
 use Rattle.registry_laws.proofs.LineLemmas.{own_line, own_founding_line, accepted_read, founding_read}
 
 -- ---- lists
@@ -90,7 +90,7 @@ pub after_both : (h : History) (rs ss : List Request) → after h (rs ++ ss) ≡
 after_both h [] ss = refl
 after_both h (r ∷ rs) ss = after_both (after_one h r) rs ss
 
-goes_on : (a b : History) → Legal a → Legal b → a.founding ≡ b.founding → HasMore (accepted_of a.deeds) (accepted_of b.deeds) → LeadsTo a b
+goes_on : (a b : History) → Legal a → Legal b → a.founding ≡ b.founding → HasMore (accepted_of a.deeds) (accepted_of b.deeds) → LeadsToLater a b
 goes_on a b legal_a legal_b same it =
     let request : Accepted → Request = λ accepted. accepted.request in (
       requests_of_record it.0,
@@ -102,7 +102,7 @@ goes_on a b legal_a legal_b same it =
     )
 
 -- the record of the second history has that of the first, and more
-record_more : (log : LogLines) (a b : History) → IsOfMachine log a → IsOfMachine log b → HasMore (record_of a) (record_of b) → LeadsTo a b
+record_more : (log : LogLines) (a b : History) → IsOfMachine log a → IsOfMachine log b → HasMore (record_of a) (record_of b) → LeadsToLater a b
 record_more log a b of_a of_b it =
     let is : founding_line b.founding ∷ map accepted_line (accepted_of b.deeds) ≡ founding_line a.founding ∷ (map accepted_line (accepted_of a.deeds) ++ it.0) = it.1 in
     let first : founding_line a.founding ≡ founding_line b.founding = cc in
@@ -110,7 +110,7 @@ record_more log a b of_a of_b it =
     goes_on a b of_a.legal of_b.legal (own_founding_line a.founding b.founding of_a.valid.founding of_b.valid.founding first)
     (values_more accepted_line IsAccepted own_line (accepted_of a.deeds) (accepted_of b.deeds) of_a.valid.accepted of_b.valid.accepted (it.0, left))
 
-one_of : (log : LogLines) (a b : History) → IsOfMachine log a → IsOfMachine log b → HasMore (record_of a) (record_of b) ⊎ HasMore (record_of b) (record_of a) → LeadsTo a b ⊎ LeadsTo b a
+one_of : (log : LogLines) (a b : History) → IsOfMachine log a → IsOfMachine log b → HasMore (record_of a) (record_of b) ⊎ HasMore (record_of b) (record_of a) → LeadsToLater a b ⊎ LeadsToLater b a
 one_of log a b of_a of_b (inl it) = inl (record_more log a b of_a of_b it)
 one_of log a b of_a of_b (inr it) = inr (record_more log b a of_b of_a it)
 
@@ -133,13 +133,13 @@ owner_after : (h : History) (n : Number) (org : List ℕ) (requests : List Reque
 owner_after h n org [] is = is
 owner_after h n org (r ∷ requests) is = owner_after (after_one h r) n org requests (owner_by h n org (verdict h r) is)
 
-owner_on : (a b : History) (n : Number) (org other : List ℕ) → LeadsTo a b → owner_of a n ≡ Some org → owner_of b n ≡ Some other → org ≡ other
+owner_on : (a b : History) (n : Number) (org other : List ℕ) → LeadsToLater a b → owner_of a n ≡ Some org → owner_of b n ≡ Some other → org ≡ other
 owner_on a b n org other it is_a is_b =
     let on : owner_of b n ≡ Some org = ap (λ (h : History). owner_of h n) it.1 ∙ owner_after a n org it.0 is_a in
     let same : Some org ≡ Some other = sym on ∙ is_b in
     cc
 
-owner_either : (a b : History) (n : Number) (org other : List ℕ) → LeadsTo a b ⊎ LeadsTo b a → owner_of a n ≡ Some org → owner_of b n ≡ Some other → org ≡ other
+owner_either : (a b : History) (n : Number) (org other : List ℕ) → LeadsToLater a b ⊎ LeadsToLater b a → owner_of a n ≡ Some org → owner_of b n ≡ Some other → org ≡ other
 owner_either a b n org other (inl it) is_a is_b = owner_on a b n org other it is_a is_b
 owner_either a b n org other (inr it) is_a is_b = sym (owner_on b a n other org it is_b is_a)
 

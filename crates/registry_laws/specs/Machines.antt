@@ -29,12 +29,12 @@ pub record IsOfMachine (log : LogLines) (h : History) : Type 0 where
   pub begins : BeginsWith log h
 
 -- some requests lead from the first history to the second
-abbrev pub LeadsTo : History → History → Type 0
-LeadsTo h x = (requests : List Request) × (x ≡ after h requests)
+abbrev pub LeadsToLater : History → History → Type 0
+LeadsToLater h x = (requests : List Request) × (x ≡ after h requests)
 
 -- of two machines that share a log one has the history of the other, or goes on from it
 abbrev pub HaveOneHistory : Type 0
-HaveOneHistory = (log : LogLines) (a b : History) → IsOfMachine log a → IsOfMachine log b → LeadsTo a b ⊎ LeadsTo b a
+HaveOneHistory = (log : LogLines) (a b : History) → IsOfMachine log a → IsOfMachine log b → LeadsToLater a b ⊎ LeadsToLater b a
 
 -- a number that has an owner on two machines that share a log has the same one on both
 abbrev pub HaveOneOwner : Type 0

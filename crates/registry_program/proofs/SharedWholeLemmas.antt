@@ -7,7 +7,7 @@ use Rattle.sqlite.specs.Store.{Ghosts}
 use Rattle.byte_streams.specs.declared.streams.Sink as sink
 use Rattle.byte_streams.specs.declared.streams.Source as source
 use Rattle.registry_rules.specs.History.{History}
-use Rattle.registry_laws.specs.Machines.{LeadsTo}
+use Rattle.registry_laws.specs.Machines.{LeadsToLater}
 use Rattle.registry_store.specs.Promise.{Represents, state_of}
 use Rattle.registry_store.specs.Queries.{IsUntouched}
 use Rattle.registry_store.specs.declared.fault.Fault.{Fault}
@@ -50,7 +50,7 @@ module _ {S : Type 0} {g : Ghosts S} {L : Type 0} (l : log.Ghosts L) (lines : L 
   following_over h None it = (it.0, it.0, (it.1, refl, it.2.of_machine, it.2.of_machine), leaves_itself it_new it.0 it.2.represents clean)
   following_over h (Some fault) it = (it.0, it.0, (it.1, inl refl, it.2.of_machine, it.2.of_machine), leaves_itself it_new it.0 it.2.represents clean)
 
-  pub over_earlier : (h x : History) (fault : Option Fault) → LeadsTo h x → LeavesOver fault x → LeavesOver fault h
+  pub over_earlier : (h x : History) (fault : Option Fault) → LeadsToLater h x → LeavesOver fault x → LeavesOver fault h
   over_earlier h x fault leads it = (it.0, it.1, (leads_on h x it.0 leads it.2.0, it.2.1, it.2.2, it.2.3), it.3)
 
   pub left_over : (c : Cursor L) (h : History) (stop : ShareStop) → IsLeft l lines c it_new c_new h stop → LeavesOver (fault_of_stop stop) h

@@ -37,7 +37,7 @@ use Rattle.registry_commands.specs.Heads.{head_line_of}
 use Rattle.registry_commands.specs.Recorded.{record_text}
 use Rattle.registry_commands.proofs.ApplyLemmas.{applied_endures}
 use Rattle.registry_desk.specs.declared.server.Connections as connections
-use Rattle.registry_desk.specs.Server.{fault_in}
+use Rattle.registry_desk.specs.Server.{fault_in_server}
 use Rattle.registry_program.specs.declared.host.Host as host
 use Rattle.registry_program.specs.Commands.{ActsOnFile, ActsOnLines, Applies, ExportsAs, FoundsBy, FoundsIn, ImportsAs, ImportsFile, ImportsList, IsFoundedOn, ReadsFoundingAt, ReportsAs, RunsReading, WritesHead, WritesList, WritesRecord, WritesReport}
 use Rattle.registry_program.specs.DryRuns.{TriesFile, TriesImportAs, TriesList}
@@ -318,7 +318,7 @@ module _ {H F I : Type 0} (m : host.Ghosts H F I) (d : disk.Ghosts F) where
               middle = all.1;
               visited = all.2;
               carried = carried old new path ends (ServesOn m c r w port limit) over same (λ clean. omega (arith, on.served.endures.clean, clean)) (AreLeftAfter all.0)
-                  (λ h stands clean. served over.after h all.0 (fault_in on.end) (all.6 h stands clean).0 clean);
+                  (λ h stands clean. served over.after h all.0 (fault_in_server on.end) (all.6 h stands clean).0 clean);
             })
         | inr not ↦ inr (unread old new path ends (ServesOn m c r w port limit) over same not.1 not.2.1 not.2.0)
       ])

@@ -16,7 +16,7 @@ use Rattle.registry_commands.specs.Messages.{failure_of}
 use Rattle.registry_desk.specs.declared.server.Connections as connections
 use Rattle.registry_desk.specs.declared.server.ServerStop.{ServerStop}
 use Rattle.registry_desk.specs.declared.server.ServerStop.TheVariants as stops
-use Rattle.registry_desk.specs.Server.{AreTurnedAway, EndsConnections, EndsServing, HaveVisited, IsLeftAfter, IsToldAt, IsVisit, Visit, fault_in}
+use Rattle.registry_desk.specs.Server.{AreTurnedAway, EndsConnections, EndsServing, HaveVisited, IsLeftAfter, IsToldAt, IsVisit, Visit, fault_in_server}
 use Rattle.registry_program.specs.declared.host.Host as host
 use Rattle.registry_program.specs.Outputs.{IsFailure}
 use Rattle.registry_program.specs.Stores.{Runs}
@@ -47,16 +47,16 @@ module _ {H F I R W : Type 0} (m : host.Ghosts H F I) (c : connections.Ghosts H 
         × HaveVisited c.opens c.closes r.remaining r.failures w.contents w.failures old middle visits
         × EndsConnections c.fails middle new end
         × (length visits ≤ limit) × OnOk end (length visits ≡ limit)
-        × ((h : History) → Represents it h → HasCleanDisk (state_of after) → EndsServing after h visits (fault_in end) × Leaves newest (state_of after) (IsLeftAfter h visits))
-        × (is_poisoned it ≡ true → AreTurnedAway visits (fault_in end) × (after ≡ it))
+        × ((h : History) → Represents it h → HasCleanDisk (state_of after) → EndsServing after h visits (fault_in_server end) × Leaves newest (state_of after) (IsLeftAfter h visits))
+        × (is_poisoned it ≡ true → AreTurnedAway visits (fault_in_server end) × (after ≡ it))
     -- Whatever the store holds: a fault was told at the last of some connections that came and were served in this time; that they are
     -- those of `served` is not said. After none the registry is not poisoned and no call of it found the rows of no history, if none
     -- had before.
-    pub told : is_poisoned it ≡ false → IfSome (fault_in end) (λ fault. (visits : List Visit) × (middle : H) × (last : Visit)
+    pub told : is_poisoned it ≡ false → IfSome (fault_in_server end) (λ fault. (visits : List Visit) × (middle : H) × (last : Visit)
         × HaveVisited c.opens c.closes r.remaining r.failures w.contents w.failures old middle visits
         × IsVisit c.opens c.closes r.remaining r.failures w.contents w.failures middle new last × IsToldAt last (Some fault))
-    pub goes_on : is_poisoned it ≡ false → fault_in end ≡ None → is_poisoned after ≡ false
-    pub notes : NotesForeign it after (fault_in end)
+    pub goes_on : is_poisoned it ≡ false → fault_in_server end ≡ None → is_poisoned after ≡ false
+    pub notes : NotesForeign it after (fault_in_server end)
     pub endures : Endures (state_of it) (state_of after)
 
   -- the machine listened on this port, and connections to it were served

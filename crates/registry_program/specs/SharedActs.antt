@@ -28,12 +28,12 @@ use Rattle.registry_program.specs.declared.host.Host as host
 use Rattle.registry_program.specs.declared.logs.Logs as logs
 use Rattle.registry_program.specs.Commands.{ReadsNamed, RunsReading}
 use Rattle.registry_program.specs.Outputs.{IsFailure, IsRejection, later}
-use Rattle.registry_program.specs.Sharing.{IsFollowed, IsNotFollowed, TellsStop}
+use Rattle.registry_program.specs.Sharing.{IsFollowed, IsNotFollowed, TellsShareStop}
 
 -- How a command ends that acted over a log: as it did; or this stopped it, and the log is left.
-abbrev pub TellsEnd : {H K : Type 0} → logs.Ghosts H K → H → H → K → Result ExitStatus ShareStop → Ends → Type 0
-TellsEnd k old new log (Ok status) ends = k.closes old new log × (ends.status ≡ status) × (ends.errors.new ≡ ends.errors.old)
-TellsEnd k old new log (Err stop) ends = k.leaves old new log stop × TellsStop stop ends
+abbrev pub TellsEndOverLog : {H K : Type 0} → logs.Ghosts H K → H → H → K → Result ExitStatus ShareStop → Ends → Type 0
+TellsEndOverLog k old new log (Ok status) ends = k.closes old new log × (ends.status ≡ status) × (ends.errors.new ≡ ends.errors.old)
+TellsEndOverLog k old new log (Err stop) ends = k.leaves old new log stop × TellsShareStop stop ends
 
 -- the input could not be opened, which is printed, and nothing was done
 pub record DidNotOpen {S L : Type 0} {g : store.Ghosts S} (it : Did S g L) (failure : Failure) : Type 0 where
@@ -82,7 +82,7 @@ module _ {H F I R K : Type 0} (m : host.Ghosts H F I) (d : disk.Ghosts F) (s : s
     pub errors : Sunk
     pub end : Result ExitStatus ShareStop
     pub answers : AnswersNamed l (did_till it after cursor left ends errors end) m s r file answered input input_new old read
-    pub tells : (out : Sunk) → TellsEnd k read new (log_of left) end (record (later ends errors) { out = record { old = out; new = out } })
+    pub tells : (out : Sunk) → TellsEndOverLog k read new (log_of left) end (record (later ends errors) { out = record { old = out; new = out } })
 
   -- the list of this input was imported over it
   pub record ImportsJoined {S : Type 0} {g : store.Ghosts S} (list : List ℕ) (import : Import) (input input_new : R) (old new : H) (it after : Registry S g) (cursor : Cursor K) (ends : Ends) : Type 0 where
@@ -91,7 +91,7 @@ module _ {H F I R K : Type 0} (m : host.Ghosts H F I) (d : disk.Ghosts F) (s : s
     pub errors : Sunk
     pub end : Result ExitStatus ShareStop
     pub answers : AnswersListOf l (did_till it after cursor left ends errors end) m s r list import input input_new old read
-    pub tells : (out : Sunk) → TellsEnd k read new (log_of left) end (record (later ends errors) { out = record { old = out; new = out } })
+    pub tells : (out : Sunk) → TellsEndOverLog k read new (log_of left) end (record (later ends errors) { out = record { old = out; new = out } })
 
   module _ (input input_new : R) where
     -- The log could not be followed, and the standard input was left alone; or this was done over it.

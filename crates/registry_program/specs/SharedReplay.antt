@@ -27,7 +27,7 @@ use Rattle.registry_program.specs.declared.host.Host as host
 use Rattle.registry_program.specs.declared.logs.Logs as logs
 use Rattle.registry_program.specs.declared.logs.NoLog.{NoLog}
 use Rattle.registry_program.specs.Outputs.{IsFailure, earlier}
-use Rattle.registry_program.specs.Sharing.{FollowsAt, IsSilent, TellsNoLog, TellsStop}
+use Rattle.registry_program.specs.Sharing.{FollowsAt, IsSilent, TellsNoLog, TellsShareStop}
 use Rattle.registry_program.specs.Stores.{Closes, IsConnected, IsUnconnected, TheRegistry}
 
 module _ {S L : Type 0} {g : store.Ghosts S} (l : log.Ghosts L) (it after : Registry S g) (cursor left : Cursor L) (end : Result (Unit {0}) ShareStop) where
@@ -43,7 +43,7 @@ module _ {H K : Type 0} (k : logs.Ghosts H K) (l : log.Ghosts K) where
   -- how a command ends that only asked something of a log
   abbrev pub TellsFollowed : H → H → K → Result (Unit {0}) ShareStop → Ends → Type 0
   TellsFollowed old new log (Ok done) ends = k.closes old new log × IsSilent ends
-  TellsFollowed old new log (Err stop) ends = k.leaves old new log stop × TellsStop stop ends
+  TellsFollowed old new log (Err stop) ends = k.leaves old new log stop × TellsShareStop stop ends
 
   -- the registry, which follows the log, acted on its lines, and the command ended so
   pub record ReplaysJoined {S : Type 0} {g : store.Ghosts S} (old new : H) (it after : Registry S g) (cursor : Cursor K) (ends : Ends) : Type 0 where
@@ -72,7 +72,7 @@ module _ {H K : Type 0} (k : logs.Ghosts H K) (l : log.Ghosts K) where
     pub why : (lines : K → LogLines) → KeepsLines l lines → HasNoFounding l lines log last stop
     pub asks : IsLogAsked l AppendsNothing log last
     pub leaves : k.leaves found new last stop
-    pub tells : TellsStop stop ends
+    pub tells : TellsShareStop stop ends
 
   -- that, or there is no log for the address
   abbrev pub HasNoFoundingAt : List ℕ → H → H → Ends → Type 0

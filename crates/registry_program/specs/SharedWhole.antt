@@ -8,7 +8,7 @@ use Rattle.byte_streams.specs.declared.streams.Sink as sink
 use Rattle.byte_streams.specs.declared.streams.Source as source
 use Rattle.registry_rules.specs.History.{History, founded}
 use Rattle.registry_rules.specs.declared.founding.Founding.{Founding}
-use Rattle.registry_laws.specs.Machines.{HasValidFields, IsOfMachine, LeadsTo}
+use Rattle.registry_laws.specs.Machines.{HasValidFields, IsOfMachine, LeadsToLater}
 use Rattle.registry_rules.specs.declared.rejection.Rejection.{Rejection}
 use Rattle.registry_rules.specs.declared.rejection.Rejection.TheVariants.{Refused, NoMemory}
 use Rattle.registry_commands.specs.declared.arguments.BadArgument.{BadArgument}
@@ -51,7 +51,7 @@ MayGoOn (Some fault) x y = GoesOnByOne x y
 
 -- what a command over a log leaves of this history: it leads to both, and the record of each begins the log
 abbrev pub IsLeftOver : LogLines → Option Fault → History → History → History → Type 0
-IsLeftOver log fault h x y = LeadsTo h x × MayGoOn fault x y × IsOfMachine log x × IsOfMachine log y
+IsLeftOver log fault h x y = LeadsToLater h x × MayGoOn fault x y × IsOfMachine log x × IsOfMachine log y
 
 -- The files hold a history to which the one before leads, and the log begins with its record; after a fault of the registry they may hold
 -- one of two.

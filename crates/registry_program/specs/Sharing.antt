@@ -68,18 +68,18 @@ abbrev pub IsSilent : Ends → Type 0
 IsSilent ends = (ends.out.new ≡ ends.out.old) × (ends.status ≡ Success) × (ends.errors.new ≡ ends.errors.old)
 
 -- how a command ends that this stopped
-abbrev pub TellsStop : ShareStop → Ends → Type 0
-TellsStop (stops.Registry fault) ends = IsFailure (failure_of fault) ends
-TellsStop stops.NoMemory ends = IsFailure Memory ends
-TellsStop (stops.Log log_faults.NoMemory) ends = IsFailure Memory ends
-TellsStop (stops.Log log_faults.NoQuorum) ends = IsLogFailure ends
-TellsStop (stops.Log log_faults.Unreachable) ends = IsLogFailure ends
-TellsStop (stops.Log log_faults.Refused) ends = IsLogFailure ends
-TellsStop (stops.Log log_faults.BadAnswer) ends = IsLogFailure ends
-TellsStop (stops.OtherRecord n) ends = IsLogFailure ends
-TellsStop stops.Ahead ends = IsLogFailure ends
-TellsStop stops.Empty ends = IsLogFailure ends
-TellsStop stops.Full ends = IsLogFailure ends
+abbrev pub TellsShareStop : ShareStop → Ends → Type 0
+TellsShareStop (stops.Registry fault) ends = IsFailure (failure_of fault) ends
+TellsShareStop stops.NoMemory ends = IsFailure Memory ends
+TellsShareStop (stops.Log log_faults.NoMemory) ends = IsFailure Memory ends
+TellsShareStop (stops.Log log_faults.NoQuorum) ends = IsLogFailure ends
+TellsShareStop (stops.Log log_faults.Unreachable) ends = IsLogFailure ends
+TellsShareStop (stops.Log log_faults.Refused) ends = IsLogFailure ends
+TellsShareStop (stops.Log log_faults.BadAnswer) ends = IsLogFailure ends
+TellsShareStop (stops.OtherRecord n) ends = IsLogFailure ends
+TellsShareStop stops.Ahead ends = IsLogFailure ends
+TellsShareStop stops.Empty ends = IsLogFailure ends
+TellsShareStop stops.Full ends = IsLogFailure ends
 
 module _ {S L : Type 0} {g : store.Ghosts S} (l : log.Ghosts L) (it after : Registry S g) (log : L) (end : Result (Cursor L) (ShareStop × L)) where
   -- the registry took up a log, or this stopped it, and nothing was committed
@@ -94,13 +94,13 @@ module _ {H K : Type 0} (k : logs.Ghosts H K) where
   -- how a command ends that took up a log, and left it
   abbrev pub TellsShared : H → H → Result (Cursor K) (ShareStop × K) → Ends → Type 0
   TellsShared old new (Ok cursor) ends = k.closes old new (log_of cursor) × IsSilent ends
-  TellsShared old new (Err left) ends = k.leaves old new left.1 left.0 × TellsStop left.0 ends
+  TellsShared old new (Err left) ends = k.leaves old new left.1 left.0 × TellsShareStop left.0 ends
 
   -- how a server ends, and leaves its log
   abbrev pub TellsServed : H → H → K → Result (Unit {0}) SharedStop → Ends → Type 0
   TellsServed old new log (Ok done) ends = k.closes old new log × IsSilent ends
   TellsServed old new log (Err ends.Connections) ends = k.closes old new log × IsSocketFailure ends
-  TellsServed old new log (Err (ends.Share stop)) ends = k.leaves old new log stop × TellsStop stop ends
+  TellsServed old new log (Err (ends.Share stop)) ends = k.leaves old new log stop × TellsShareStop stop ends
 
   module _ (l : log.Ghosts K) where
     -- the record of the registry was put into the log at this address, as `share` says
@@ -130,7 +130,7 @@ module _ {H K : Type 0} (k : logs.Ghosts H K) where
     abbrev pub IsNotFollowed : {S : Type 0} {g : store.Ghosts S} → List ℕ → H → H → Registry S g → Registry S g → Ends → Type 0
     IsNotFollowed address old new it after ends =
         ((why : NoLog) × k.rejects old new address why × (after ≡ it) × TellsNoLog why ends)
-        ⊎ ((found : H) × (stop : ShareStop) × (log : K) × IsTakenUp address old found it after (Err (stop, log)) × k.leaves found new log stop × TellsStop stop ends)
+        ⊎ ((found : H) × (stop : ShareStop) × (log : K) × IsTakenUp address old found it after (Err (stop, log)) × k.leaves found new log stop × TellsShareStop stop ends)
 
     -- the log was taken up, and then this was done with the registry that follows it
     pub record IsFollowed {S : Type 0} {g : store.Ghosts S} (address : List ℕ) (Does : H → H → Registry S g → Registry S g → Cursor K → Ends → Type 0) (old new : H) (it after : Registry S g) (ends : Ends) : Type 0 where
@@ -146,7 +146,7 @@ module _ {H K : Type 0} (k : logs.Ghosts H K) where
 
 module _ {H F I R W K : Type 0} (m : host.Ghosts H F I) (c : connections.Ghosts H R W) (r : source.Ghosts R) (w : sink.Ghosts W) (k : logs.Ghosts H K) (l : log.Ghosts K) where
   -- connections of the machine were served over a log, at most so many, as `serve_shared` says
-  pub record AreServedOver {S : Type 0} {g : store.Ghosts S} (old new : H) (it after : Registry S g) (cursor cursor_new : Cursor K) (limit : ℕ) (end : Result (Unit {0}) SharedStop) : Type 0 where
+  pub record AreServedOverLog {S : Type 0} {g : store.Ghosts S} (old new : H) (it after : Registry S g) (cursor cursor_new : Cursor K) (limit : ℕ) (end : Result (Unit {0}) SharedStop) : Type 0 where
     pub served : (visits : List Visit) × (middle : H)
         × HaveVisited c.opens c.closes r.remaining r.failures w.contents w.failures old middle visits
         × desk.EndsConnectionsOverLog c.fails middle new end
@@ -165,7 +165,7 @@ module _ {H F I R W K : Type 0} (m : host.Ghosts H F I) (c : connections.Ghosts 
     pub done : H
     pub left : Cursor K
     pub end : Result (Unit {0}) SharedStop
-    pub served : AreServedOver listening done it after cursor left limit end
+    pub served : AreServedOverLog listening done it after cursor left limit end
     pub tells : TellsServed k done new (log_of left) end ends
 
   -- that, or it could not listen

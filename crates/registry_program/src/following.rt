@@ -4,8 +4,8 @@ ghost use Rattle.std.specs.Prelude.{◌≡◌, IfErr, IfOk, Ok};
 ghost use Rattle.registry_commands.specs.Ends.{output_of};
 ghost use Rattle.registry_commands.specs.Failures.{Prints};
 ghost use Rattle.registry_program.specs.Outputs.{silent_ends};
-ghost use Rattle.registry_program.specs.SharedActs.{TellsEnd};
-ghost use Rattle.registry_program.specs.Sharing.{IsNotFollowed, IsTakenUp, TellsNoLog, TellsStop, log_line};
+ghost use Rattle.registry_program.specs.SharedActs.{TellsEndOverLog};
+ghost use Rattle.registry_program.specs.Sharing.{IsNotFollowed, IsTakenUp, TellsNoLog, TellsShareStop, log_line};
 
 use crate::logs::{Logs, NoLog};
 use byte_streams::Sink;
@@ -40,7 +40,7 @@ pub(crate) fn refuse_address<E: Sink>(errors: &mut E, why: NoLog) -> ExitStatus
 
 /// Prints why the registry does not go on with its log, and returns the exit status.
 pub(crate) fn fail_by<E: Sink>(errors: &mut E, stop: ShareStop) -> ExitStatus
-    ensures { (out : _) → TellsStop stop (silent_ends E.Sink out errors.old errors.new result) }
+    ensures { (out : _) → TellsShareStop stop (silent_ends E.Sink out errors.old errors.new result) }
 {
     match stop {
         ShareStop::Registry(fault) => fail(errors, failure_of(fault)),
@@ -90,7 +90,7 @@ pub(crate) fn end_acting<H: Logs, E: Sink>(
     errors: &mut E,
     end: Result<ExitStatus, ShareStop>,
 ) -> ExitStatus
-    ensures { (out : _) → TellsEnd H.Logs host.old host.new log end (silent_ends E.Sink out errors.old errors.new result) }
+    ensures { (out : _) → TellsEndOverLog H.Logs host.old host.new log end (silent_ends E.Sink out errors.old errors.new result) }
 {
     match end {
         Ok(status) => {

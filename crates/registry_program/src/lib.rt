@@ -52,7 +52,7 @@
 //! takes the log up and acts on its lines (`ReplaysJoined`). The others take it up before they
 //! listen or open an input, and end if the registry does not go on with it (`FollowsAt`); what they
 //! then do is said by `ServesJoined`, `AppliesJoined` and `ImportsJoined`. A log with which the registry
-//! does not go on is left, with the reason, which only a cause names beyond `fault: log` (`TellsStop`).
+//! does not go on is left, with the reason, which only a cause names beyond `fault: log` (`TellsShareStop`).
 //! Over a log that keeps its lines the files then hold a history to which the one before leads, and the
 //! log begins with its record (`LeadsFilesOver`); after a fault of the registry they may hold one of two
 //! (`IsLeftOver`). So do the files that `replay` made, with a history to which that founding leads

@@ -1,7 +1,7 @@
 //! Serves connections and opens the store again, as two runs of the program do.
 
 ghost use Rattle.std.specs.Prelude.{◌≡◌, ◌≤◌, List, length, MatchResult, OnOk};
-ghost use Rattle.registry_desk.specs.Server.{Visit, HaveVisited, EndsConnections, fault_in};
+ghost use Rattle.registry_desk.specs.Server.{Visit, HaveVisited, EndsConnections, fault_in_server};
 ghost use Rattle.registry_reopening.specs.Opening.{ComesAfter, LeavesFilesAfter};
 ghost use Rattle.registry_reopening.specs.Served.{AreServedOver, IsReopenedAfterServing};
 
@@ -33,7 +33,7 @@ pub fn serve_and_crash<C: Connections, D: Crash + Drop>(
         × HaveVisited C.opens C.closes C.Reader.remaining C.Reader.failures C.Writer.contents C.Writer.failures connections.old middle visits
         × EndsConnections C.fails middle connections.new result.0
         × (length visits ≤ count) × OnOk result.0 (length visits ≡ count)
-        × (over : AreServedOver first visits (fault_in result.0))
+        × (over : AreServedOver first visits (fault_in_server result.0))
         × MatchResult result.1 (λ it. IsReopenedAfterServing first visits it × ComesAfter first it) (LeavesFilesAfter D.Disk over.last) }
 {
     let mut registry = first;
@@ -57,7 +57,7 @@ pub fn serve_and_open<C: Connections, D: Disk + Drop>(
         × HaveVisited C.opens C.closes C.Reader.remaining C.Reader.failures C.Writer.contents C.Writer.failures connections.old middle visits
         × EndsConnections C.fails middle connections.new result.0
         × (length visits ≤ count) × OnOk result.0 (length visits ≡ count)
-        × (over : AreServedOver first visits (fault_in result.0))
+        × (over : AreServedOver first visits (fault_in_server result.0))
         × MatchResult result.1 (λ it. IsReopenedAfterServing first visits it × ComesAfter first it) (LeavesFilesAfter D.Disk over.last) }
 {
     let mut registry = first;

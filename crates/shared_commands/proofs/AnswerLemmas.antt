@@ -9,7 +9,7 @@ use Rattle.registry_rules.specs.History.{History}
 use Rattle.registry_rules.specs.Run.{after_one}
 use Rattle.registry_rules.specs.declared.order.Request.{Request}
 use Rattle.registry_rules.specs.declared.verdict.Reply.{Reply}
-use Rattle.registry_laws.specs.Machines.{LeadsTo}
+use Rattle.registry_laws.specs.Machines.{LeadsToLater}
 use Rattle.registry_store.specs.declared.registry.Registry.{Registry}
 use Rattle.registry_commands.specs.declared.status.ExitStatus.{ExitStatus}
 use Rattle.registry_commands.specs.Ends.{Sunk}
@@ -42,11 +42,11 @@ lines_on (x ∷ replies) reply = ap (λ (text : List ℕ). reply_line x ++ text)
 -- ---- answers
 
 module _ {L : Type 0} (l : LogGhosts L) (lines : L → LogLines) where
-  leads_by : (c : Cursor L) (h : History) (r : Request) (reply : Reply) (c_new : Cursor L) (next : History) → IsAnsweredBy l lines c h r reply c_new next → LeadsTo h next
+  leads_by : (c : Cursor L) (h : History) (r : Request) (reply : Reply) (c_new : Cursor L) (next : History) → IsAnsweredBy l lines c h r reply c_new next → LeadsToLater h next
   leads_by c h r reply c_new next by = leads_on h by.before next by.leads (r ∷ [], by.next_is)
 
-  pub answered_leads : (c : Cursor L) (h : History) (rs : List Request) (replies : List Reply) (c_new : Cursor L) (next : History) → AreAnswered l lines c h rs replies c_new next → LeadsTo h next
-  answered_leads c h [] replies c_new next same = subst (λ (x : History). LeadsTo h x) (sym same.2) (leads_nowhere h)
+  pub answered_leads : (c : Cursor L) (h : History) (rs : List Request) (replies : List Reply) (c_new : Cursor L) (next : History) → AreAnswered l lines c h rs replies c_new next → LeadsToLater h next
+  answered_leads c h [] replies c_new next same = subst (λ (x : History). LeadsToLater h x) (sym same.2) (leads_nowhere h)
   answered_leads c h (r ∷ rs) replies c_new next it =
       leads_on h it.3 next (leads_by c h r it.0 it.2 it.3 it.5) (answered_leads it.2 it.3 rs it.1 c_new next it.6)
 

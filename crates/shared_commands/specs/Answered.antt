@@ -7,7 +7,7 @@ use Rattle.registry_rules.specs.declared.order.Request.{Request}
 use Rattle.registry_rules.specs.declared.verdict.Reply.{Reply}
 use Rattle.registry_rules.specs.History.{History}
 use Rattle.registry_rules.specs.Run.{after_one, reply_to}
-use Rattle.registry_laws.specs.Machines.{IsOfMachine, LeadsTo}
+use Rattle.registry_laws.specs.Machines.{IsOfMachine, LeadsToLater}
 use Rattle.registry_store.specs.declared.fault.Fault.{Fault}
 use Rattle.registry_store.specs.declared.registry.Registry.{Registry}
 use Rattle.registry_commands.specs.declared.messages.Failure.TheVariants.{File, Memory}
@@ -46,7 +46,7 @@ module _ {L : Type 0} (l : LogGhosts L) (lines : L → LogLines) where
   -- the log has its record. No line but that of the request was to be appended.
   pub record IsAnsweredBy (c : Cursor L) (h : History) (r : Request) (reply : Reply) (c_new : Cursor L) (next : History) : Type 0 where
     pub before : History
-    pub leads : LeadsTo h before
+    pub leads : LeadsToLater h before
     pub whole : WasWhole (lines c.log) (lines c_new.log) before
     pub reply_is : reply ≡ reply_to before r
     pub next_is : next ≡ after_one before r

@@ -8,7 +8,7 @@ use Rattle.registry_rules.specs.Run.{after_one}
 use Rattle.registry_rules.specs.Verdict.{verdict}
 use Rattle.registry_rules.specs.declared.order.Request.{Request}
 use Rattle.registry_rules.specs.declared.verdict.Reply.{Reply}
-use Rattle.registry_laws.specs.Machines.{LeadsTo}
+use Rattle.registry_laws.specs.Machines.{LeadsToLater}
 use Rattle.registry_laws.specs.Records.{record_of}
 use Rattle.registry_store.specs.declared.registry.Registry.{Registry}
 use Rattle.registry_store.specs.Queries.{IsUntouched}
@@ -41,13 +41,13 @@ texts_by h x cache new now before true test is unchanged of = rw is (rw (unchang
 texts_by h x cache new now before false test is unchanged of = none_are x new is
 
 -- they are dropped if a line was acted on
-pub texts_stay : (h x : History) (cache new : Cache) (now before : ℕ) → new ≡ (if nat_eq now before then cache else no_texts) → before ≡ length (record_of h) → now ≡ length (record_of x) → LeadsTo h x
+pub texts_stay : (h x : History) (cache new : Cache) (now before : ℕ) → new ≡ (if nat_eq now before then cache else no_texts) → before ≡ length (record_of h) → now ≡ length (record_of x) → LeadsToLater h x
     → AreTextsOf h cache → AreTextsOf x new
 texts_stay h x cache new now before is at_h at_x leads of =
     texts_by h x cache new now before (nat_eq now before) refl is (λ same. unmoved h x leads (omega (arith, same, at_h, at_x))) of
 
 -- and they are of the history before the order too
-texts_before : (h x : History) (r : Request) (cache new : Cache) (now before : ℕ) → new ≡ (if nat_eq now before then cache else no_texts) → before ≡ length (record_of h) → now ≡ length (record_of (after_one x r)) → LeadsTo h x
+texts_before : (h x : History) (r : Request) (cache new : Cache) (now before : ℕ) → new ≡ (if nat_eq now before then cache else no_texts) → before ≡ length (record_of h) → now ≡ length (record_of (after_one x r)) → LeadsToLater h x
     → AreTextsOf h cache → AreTextsOf x new
 texts_before h x r cache new now before is at_h at_next leads of =
     let one = longer_by x (verdict x r) in

@@ -2,7 +2,7 @@
 use Rattle.std.proofs.Common.{◌≤◌, ◌∙◌, length, inl, inr, ap, subst, arith}
 use Rattle.std.proofs.lemmas.List.{length-append}
 use Rattle.registry_rules.specs.History.{History}
-use Rattle.registry_laws.specs.Machines.{IsOfMachine, LeadsTo}
+use Rattle.registry_laws.specs.Machines.{IsOfMachine, LeadsToLater}
 use Rattle.registry_laws.specs.Records.{record_of}
 use Rattle.registry_laws.proofs.MachineLemmas.{one_history}
 use Rattle.shared_log.specs.Calls.{Grows, LogLines}
@@ -22,5 +22,5 @@ no_older began ended again done first second legal_first valid_first legal_secon
     let of_second : IsOfMachine (record_of second) second = record { legal = legal_second; valid = valid_second; begins = grows_none (record_of second) } in
     elim (one_history (record_of second) first second of_first of_second) [
       | inl leads ↦ leads
-      | inr back ↦ subst (λ (x : History). LeadsTo first x) (unmoved second first back (grows_longer (record_of first) (record_of second) grown)) (leads_nowhere first)
+      | inr back ↦ subst (λ (x : History). LeadsToLater first x) (unmoved second first back (grows_longer (record_of first) (record_of second) grown)) (leads_nowhere first)
     ]

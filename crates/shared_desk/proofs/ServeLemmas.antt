@@ -9,7 +9,7 @@ use Rattle.registry_rules.specs.declared.founding.Founding.{Founding}
 use Rattle.registry_rules.specs.declared.order.Request.{Request}
 use Rattle.registry_rules.specs.declared.verdict.Verdict.{Verdict}
 use Rattle.registry_rules.specs.declared.verdict.Verdict.TheVariants.{Kept, Refused, New}
-use Rattle.registry_laws.specs.Machines.{LeadsTo}
+use Rattle.registry_laws.specs.Machines.{LeadsToLater}
 use Rattle.registry_store.specs.declared.fault.Fault.TheVariants as faults
 use Rattle.registry_store.specs.declared.registry.Registry.{Registry}
 use Rattle.registry_http.specs.declared.message.Message.{Message}
@@ -45,11 +45,11 @@ founding_after h [] = refl
 founding_after h (r ∷ requests) = founding_after (after_one h r) requests ∙ founding_by h (verdict h r)
 
 -- requests change no founding
-pub same_founding : (h x : History) → LeadsTo h x → x.founding ≡ h.founding
+pub same_founding : (h x : History) → LeadsToLater h x → x.founding ≡ h.founding
 same_founding h x leads = ap (λ (y : History). y.founding) leads.1 ∙ founding_after h leads.0
 
 -- a message leads to the history after it
-pub leads_by_message : (h : History) (said : Result Message HttpRefusal) → LeadsTo h (after_message h said)
+pub leads_by_message : (h : History) (said : Result Message HttpRefusal) → LeadsToLater h (after_message h said)
 leads_by_message h (Err refusal) = leads_nowhere h
 leads_by_message h (Ok (messages.Query query)) = leads_nowhere h
 leads_by_message h (Ok (messages.Request r)) = (r ∷ [], refl)

@@ -5,7 +5,7 @@ use Rattle.byte_streams.specs.declared.streams.Broken.{Broken}
 use Rattle.registry_http.specs.Messages.{Says}
 use Rattle.registry_rules.specs.History.{History}
 use Rattle.registry_rules.specs.declared.founding.Founding.{Founding}
-use Rattle.registry_laws.specs.Machines.{LeadsTo}
+use Rattle.registry_laws.specs.Machines.{LeadsToLater}
 use Rattle.registry_desk.specs.declared.serve.Served.{Served}
 use Rattle.registry_desk.specs.Server.{Visit}
 use Rattle.shared_log.specs.Calls.{Grows, KeepsLines, LogLines}
@@ -23,23 +23,23 @@ use Rattle.shared_desk.proofs.ServeLemmas.{leads_by_message, same_founding}
 
 module _ {L : Type 0} (l : LogGhosts L) (lines : L → LogLines) where
   turn_leads : (c : Cursor L) (h : History) (bytes text : List ℕ) (end : Result Served Broken) (c_new : Cursor L) (next : History)
-      → IsTurnOver l lines c h (record { bytes = bytes; text = text; end = end }) c_new next → LeadsTo h next
+      → IsTurnOver l lines c h (record { bytes = bytes; text = text; end = end }) c_new next → LeadsToLater h next
   turn_leads c h bytes text (Ok served) c_new next (inl responded) =
       let a = responded.answer in
-      leads_on h a.before next a.leads (subst (λ (x : History). LeadsTo a.before x) (sym a.next_is) (leads_by_message a.before responded.said))
+      leads_on h a.before next a.leads (subst (λ (x : History). LeadsToLater a.before x) (sym a.next_is) (leads_by_message a.before responded.said))
   turn_leads c h bytes text (Ok served) c_new next (inr passed) = passed.leads
-  turn_leads c h bytes text (Err broken) c_new next same = subst (λ (x : History). LeadsTo h x) (sym same.0) (leads_nowhere h)
+  turn_leads c h bytes text (Err broken) c_new next same = subst (λ (x : History). LeadsToLater h x) (sym same.0) (leads_nowhere h)
 
   -- the last history is one to which the first leads
-  pub turns_lead : (c : Cursor L) (h : History) (visits : List Visit) (c_new : Cursor L) (next : History) → TurnsOver l lines c h visits c_new next → LeadsTo h next
-  turns_lead c h [] c_new next same = subst (λ (x : History). LeadsTo h x) (sym same.1) (leads_nowhere h)
+  pub turns_lead : (c : Cursor L) (h : History) (visits : List Visit) (c_new : Cursor L) (next : History) → TurnsOver l lines c h visits c_new next → LeadsToLater h next
+  turns_lead c h [] c_new next same = subst (λ (x : History). LeadsToLater h x) (sym same.1) (leads_nowhere h)
   turns_lead c h (visit ∷ visits) c_new next it =
       leads_on h it.1 next (turn_leads c h visit.bytes visit.text visit.end it.0 it.1 it.2) (turns_lead it.0 it.1 visits c_new next it.4)
 
 -- ---- lines
 
 -- an order of a later history
-order_earlier : (log new : LogLines) (h x : History) → LeadsTo h x → Grows log new → (bytes : List ℕ) (n : ℕ) (line : List ℕ) → AppendsOrderIn log x bytes n line → AppendsOrderIn new h bytes n line
+order_earlier : (log new : LogLines) (h x : History) → LeadsToLater h x → Grows log new → (bytes : List ℕ) (n : ℕ) (line : List ℕ) → AppendsOrderIn log x bytes n line → AppendsOrderIn new h bytes n line
 order_earlier log new h x leads grown bytes n line it =
     (it.0, subst (λ (founding : ℕ). Says founding bytes it.0) (ap (λ (f : Founding). f.vendor) (same_founding h x leads)) it.1, (it.2.0, it.2.1, appends_earlier log new h x it.2.0 leads grown n line it.2.2))
 

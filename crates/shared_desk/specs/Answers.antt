@@ -5,7 +5,7 @@
 use Rattle.std.specs.Prelude.{◌≡◌, ◌⊎◌, Result, Ok, IsOk}
 use Rattle.sqlite.specs.Store.{Ghosts}
 use Rattle.registry_rules.specs.History.{History}
-use Rattle.registry_laws.specs.Machines.{LeadsTo}
+use Rattle.registry_laws.specs.Machines.{LeadsToLater}
 use Rattle.registry_store.specs.declared.fault.Fault.TheVariants as faults
 use Rattle.registry_store.specs.declared.registry.Registry.{Registry}
 use Rattle.registry_http.specs.declared.message.Message.{Message}
@@ -28,7 +28,7 @@ module _ {L : Type 0} (lines : L → LogLines) (c c_new : Cursor L) (h : History
   -- message. A message that is refused by itself is not asked of the log.
   pub record IsAnswerOver (said : Result Message HttpRefusal) (response : Response) (next : History) : Type 0 where
     pub before : History
-    pub leads : LeadsTo h before
+    pub leads : LeadsToLater h before
     pub whole : IsOk said → WasWhole (lines c.log) (lines c_new.log) before
     pub response_is : IsResponse before said response
     pub next_is : next ≡ after_message before said

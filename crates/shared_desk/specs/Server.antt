@@ -6,7 +6,7 @@ use Rattle.std.specs.Prelude.{◌≡◌, ◌⊎◌, ⊤, true, false, List, [], 
 use Rattle.sqlite.specs.Store.{Ghosts}
 use Rattle.byte_streams.specs.declared.streams.Broken.{Broken}
 use Rattle.registry_rules.specs.History.{History}
-use Rattle.registry_laws.specs.Machines.{IsOfMachine, LeadsTo}
+use Rattle.registry_laws.specs.Machines.{IsOfMachine, LeadsToLater}
 use Rattle.registry_store.specs.declared.registry.Registry.{Registry}
 use Rattle.registry_http.specs.declared.message.Message.{Message}
 use Rattle.registry_http.specs.declared.refusal.HttpRefusal.{HttpRefusal}
@@ -107,7 +107,7 @@ module _ {L : Type 0} (l : LogGhosts L) (lines : L → LogLines) where
       pub stop : ShareStop
       pub passes : may_pass stop ≡ true
       pub told : IsStopTold visit stop
-      pub leads : LeadsTo h next
+      pub leads : LeadsToLater h next
       pub failed : (fault : LogFault) → stop ≡ stops.Log fault → HasFailed l lines c.log c_new.log fault
 
     -- one connection leads from one history to the next

@@ -14,7 +14,7 @@ use Rattle.registry_rules.specs.declared.verdict.Reply.{Reply}
 use Rattle.registry_rules.specs.declared.verdict.Verdict.{Verdict}
 use Rattle.registry_rules.specs.declared.verdict.Verdict.TheVariants.{Kept, Refused, New}
 use Rattle.registry_wire.specs.Record.{accepted_line}
-use Rattle.registry_laws.specs.Machines.{IsOfMachine, LeadsTo}
+use Rattle.registry_laws.specs.Machines.{IsOfMachine, LeadsToLater}
 use Rattle.registry_laws.specs.Records.{record_of}
 use Rattle.registry_laws.proofs.MachineLemmas.{record_with}
 use Rattle.registry_tables.specs.Rows.{newest}
@@ -58,7 +58,7 @@ same_history h (r ∷ requests) short =
     let more = longer (after_one h r) requests in
     same_history (after_one h r) requests (omega (arith, short, one)) ∙ same_by h (verdict h r) (omega (arith, short, more))
 
-pub unmoved : (h x : History) → LeadsTo h x → length (record_of x) ≤ length (record_of h) → x ≡ h
+pub unmoved : (h x : History) → LeadsToLater h x → length (record_of x) ≤ length (record_of h) → x ≡ h
 unmoved h x leads short =
     let is = ap (λ (y : History). length (record_of y)) leads.1 in
     leads.1 ∙ same_history h leads.0 (omega (arith, is, short))
@@ -118,7 +118,7 @@ module _ {S : Type 0} {g : Ghosts S} {L : Type 0} (l : LogGhosts L) (lines : L �
       let at : followed.now ≡ h = unmoved (after_one h r) followed.now followed.leads (omega (arith, here, there, same, end, stays)) ∙ unchanged in
       record {
         before = followed.now;
-        leads = subst (LeadsTo h) (sym at) (leads_nowhere h);
+        leads = subst (LeadsToLater h) (sym at) (leads_nowhere h);
         whole = earlier_start (lines c.log) (lines c_mid.log) (lines c_new.log) (λ log. log ≡ record_of followed.now) acted.grown followed.whole;
         reply_is = acted.reply_is ∙ ap (λ (x : History). reply_to x r) (sym at);
         follows = subst (Follows l lines new c_new) (sym (ap (λ (x : History). after_one x r) at ∙ unchanged ∙ sym at)) followed.follows;

@@ -8,7 +8,7 @@ use Rattle.registry_rules.specs.Verdict.{verdict}
 use Rattle.registry_rules.specs.declared.deed.Deed.{Deed}
 use Rattle.registry_rules.specs.declared.order.Request.{Request}
 use Rattle.registry_rules.specs.declared.verdict.Verdict.TheVariants.{New}
-use Rattle.registry_laws.specs.Machines.{IsOfMachine, LeadsTo}
+use Rattle.registry_laws.specs.Machines.{IsOfMachine, LeadsToLater}
 use Rattle.registry_laws.specs.Records.{record_of}
 use Rattle.registry_wire.specs.Record.{accepted_line}
 use Rattle.shared_log.specs.Calls.{Grows, KeepsLines, IsLogPage, LogLines}
@@ -71,7 +71,7 @@ module _ {L : Type 0} (l : LogGhosts L) (May : ℕ → List ℕ → Type 0) wher
   asked_no_line c c_new line (faults.Log fault) may it = asked_in_vain c.log c_new.log it.0
 
 -- a line that may be appended later may be appended by an earlier history, to a log that has grown
-pub appends_earlier : (log new : LogLines) (h x : History) (r : Request) → LeadsTo h x → Grows log new → (n : ℕ) (line : List ℕ) → AppendsRequest log x r n line → AppendsRequest new h r n line
+pub appends_earlier : (log new : LogLines) (h x : History) (r : Request) → LeadsToLater h x → Grows log new → (n : ℕ) (line : List ℕ) → AppendsRequest log x r n line → AppendsRequest new h r n line
 appends_earlier log new h x r leads grown n line it = record {
   before = it.before;
   leads = leads_on h x it.before leads it.leads;
@@ -129,7 +129,7 @@ module _ {L : Type 0} (l : LogGhosts L) (lines : L → LogLines) (kept : KeepsLi
   asked_grows May a b it = calls_grow May a b it.0 it.1
 
   -- calls for a request, and then more calls for it, over a later history
-  pub asked_later : (h x : History) (r : Request) (a b c : L) → LeadsTo h x → IsLogAsked l (AppendsRequest (lines b) h r) a b → IsLogAsked l (AppendsRequest (lines c) x r) b c → IsLogAsked l (AppendsRequest (lines c) h r) a c
+  pub asked_later : (h x : History) (r : Request) (a b c : L) → LeadsToLater h x → IsLogAsked l (AppendsRequest (lines b) h r) a b → IsLogAsked l (AppendsRequest (lines c) x r) b c → IsLogAsked l (AppendsRequest (lines c) h r) a c
   asked_later h x r a b c leads one more =
       let May = AppendsRequest (lines c) h r in
       let grown = asked_grows (AppendsRequest (lines c) x r) b c more in

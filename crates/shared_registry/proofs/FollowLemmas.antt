@@ -9,7 +9,7 @@ use Rattle.sqlite.specs.State.{State}
 use Rattle.registry_rules.specs.History.{History}
 use Rattle.registry_rules.specs.Run.{Legal}
 use Rattle.registry_rules.proofs.RunLemmas.{legal_after}
-use Rattle.registry_laws.specs.Machines.{BeginsWith, IsOfMachine, LeadsTo}
+use Rattle.registry_laws.specs.Machines.{BeginsWith, IsOfMachine, LeadsToLater}
 use Rattle.registry_laws.specs.Records.{record_of}
 use Rattle.registry_laws.proofs.MachineLemmas.{appended_twice}
 use Rattle.registry_store.specs.Promise.{Represents, state_of}
@@ -74,7 +74,7 @@ at_instant_grows old new P it = grows_on old it.instant new it.before it.after
 pub still_of : (log new : LogLines) (h : History) → IsOfMachine log h → Grows log new → IsOfMachine new h
 still_of log new h of grown = record { legal = of.legal; valid = of.valid; begins = grows_on (record_of h) log new of.begins grown }
 
-pub legal_later : (h x : History) → Legal h → LeadsTo h x → Legal x
+pub legal_later : (h x : History) → Legal h → LeadsToLater h x → Legal x
 legal_later h x legal leads = subst Legal (sym leads.1) (legal_after h leads.0 legal)
 
 -- lines were acted on, with which the log goes on
@@ -113,13 +113,13 @@ grows_over log new h page front back it split =
     grows_on (record_of h ++ front) it.there.instant new (back ++ it.rest, is) it.there.after
 
 -- what is left of a later history is left of an earlier one
-left_earlier : (s : State) (log : LogLines) (h now : History) → LeadsTo h now → LeavesOfMachine s log now → LeavesOfMachine s log h
+left_earlier : (s : State) (log : LogLines) (h now : History) → LeadsToLater h now → LeavesOfMachine s log now → LeavesOfMachine s log h
 left_earlier s log h now leads it =
     record { last = it.last; next = it.next; leads = leads_on h now it.last leads it.leads; goes_on = it.goes_on; last_of = it.last_of; next_of = it.next_of; leaves = it.leaves }
 
 module _ {L : Type 0} (l : LogGhosts L) (lines : L → LogLines) where
   -- what a crash may leave where the line may have been acted on
-  left_one : (c_new : Cursor L) (s : State) (h last : History) (line : List ℕ) → LeadsTo h last → IsOfMachine (lines c_new.log) last → Grows (record_of last ++ line ∷ []) (lines c_new.log)
+  left_one : (c_new : Cursor L) (s : State) (h last : History) (line : List ℕ) → LeadsToLater h last → IsOfMachine (lines c_new.log) last → Grows (record_of last ++ line ∷ []) (lines c_new.log)
       → MayHaveGoneOn s last line → LeavesOfMachine s (lines c_new.log) h
   left_one c_new s h last line leads of grown it =
       let both : GoesOnByOne last it.next × IsOfMachine (lines c_new.log) it.next = elim it.goes_on [
@@ -154,7 +154,7 @@ module _ {S : Type 0} {g : Ghosts S} {L : Type 0} (l : LogGhosts L) (lines : L �
   }
 
   -- what stopped it before a line is left so
-  stopped_at : (c : Cursor L) (new : Registry S g) (c_new : Cursor L) (h last : History) (rest more : LogLines) (now : ℕ) → LeadsTo h last → IsOfMachine (lines c_new.log) last → c_new.next ≡ length (record_of last) → now ≡ c_new.next
+  stopped_at : (c : Cursor L) (new : Registry S g) (c_new : Cursor L) (h last : History) (rest more : LogLines) (now : ℕ) → LeadsToLater h last → IsOfMachine (lines c_new.log) last → c_new.next ≡ length (record_of last) → now ≡ c_new.next
       → AtSomeInstant (lines c.log) (lines c_new.log) (λ log. log ≡ record_of last ++ (rest ++ more)) → (stop : ShareStop) → IsStoppedBefore new last rest now stop → IsLeft l lines c new c_new h stop
   stopped_at c new c_new h last [] more now leads of next at there stop it = absurd it
   stopped_at c new c_new h last (line ∷ others) more now leads of next at there (stops.Registry fault) it = (
@@ -216,7 +216,7 @@ module _ {S : Type 0} {g : Ghosts S} {L : Type 0} (l : LogGhosts L) (lines : L �
   )
 
   -- what a later call left is what the calls together left
-  pub left_since : (start c : Cursor L) (new : Registry S g) (c_new : Cursor L) (h now : History) → Grows (lines start.log) (lines c.log) → LeadsTo h now → (stop : ShareStop) → IsLeft l lines c new c_new now stop → IsLeft l lines start new c_new h stop
+  pub left_since : (start c : Cursor L) (new : Registry S g) (c_new : Cursor L) (h now : History) → Grows (lines start.log) (lines c.log) → LeadsToLater h now → (stop : ShareStop) → IsLeft l lines c new c_new now stop → IsLeft l lines start new c_new h stop
   left_since start c new c_new h now grown leads (stops.Registry fault) it = (it.0, left_earlier (state_of new) (lines c_new.log) h now leads it.1)
   left_since start c new c_new h now grown leads (stops.Log fault) it = ((it.0.0, leads_on h now it.0.0 leads it.0.1, it.0.2), failed_since l lines start.log c.log c_new.log fault grown it.1)
   left_since start c new c_new h now grown leads (stops.OtherRecord n) it = (

@@ -22,7 +22,7 @@ use Rattle.registry_wire.specs.Record.{accepted_line, record_reading}
 use Rattle.registry_wire.specs.declared.record.RecordLine.{RecordLine}
 use Rattle.registry_wire.specs.declared.record.RecordLine.TheVariants as lines
 use Rattle.registry_wire.specs.declared.refusal.WireRefusal.{WireRefusal}
-use Rattle.registry_laws.specs.Machines.{HasValidFields, LeadsTo}
+use Rattle.registry_laws.specs.Machines.{HasValidFields, LeadsToLater}
 use Rattle.registry_laws.specs.Records.{IsAccepted, record_of}
 use Rattle.registry_laws.proofs.LineLemmas.{accepted_read}
 use Rattle.registry_laws.proofs.MachineLemmas.{after_both, appended_twice, record_with}
@@ -71,10 +71,10 @@ over_one h r line x it = record {
 
 -- ---- lines one after another
 
-pub leads_nowhere : (h : History) → LeadsTo h h
+pub leads_nowhere : (h : History) → LeadsToLater h h
 leads_nowhere h = ([], refl)
 
-pub leads_on : (h x y : History) → LeadsTo h x → LeadsTo x y → LeadsTo h y
+pub leads_on : (h x y : History) → LeadsToLater h x → LeadsToLater x y → LeadsToLater h y
 leads_on h x y one two = (one.0 ++ two.0, two.1 ∙ ap (λ (z : History). after z two.0) one.1 ∙ sym (after_both h one.0 two.0))
 
 pub over_none : (h : History) → GoesOver h [] h

@@ -7,7 +7,7 @@ use Rattle.registry_rules.specs.declared.deed.Deed.{Deed}
 use Rattle.registry_rules.specs.declared.order.Request.{Request}
 use Rattle.registry_rules.specs.declared.verdict.Verdict.TheVariants.{New}
 use Rattle.registry_wire.specs.Record.{accepted_line}
-use Rattle.registry_laws.specs.Machines.{IsOfMachine, LeadsTo}
+use Rattle.registry_laws.specs.Machines.{IsOfMachine, LeadsToLater}
 use Rattle.registry_laws.specs.Records.{record_of}
 use Rattle.shared_log.specs.Calls.{LogLines}
 use Rattle.shared_log.specs.declared.answers.AppendAnswer.{AppendAnswer}
@@ -25,7 +25,7 @@ AppendsNothing n line = ⊥
 -- is new to that history, and the line has the reply to it.
 pub record AppendsRequest (log : LogLines) (h : History) (r : Request) (n : ℕ) (line : List ℕ) : Type 0 where
   pub before : History
-  pub leads : LeadsTo h before
+  pub leads : LeadsToLater h before
   pub there : IsOfMachine log before
   pub deed : Deed
   pub new : verdict before r ≡ New deed

@@ -8,7 +8,7 @@ use Rattle.registry_rules.specs.History.{History}
 use Rattle.registry_rules.specs.Run.{after_one, reply_to}
 use Rattle.registry_rules.specs.declared.order.Request.{Request}
 use Rattle.registry_rules.specs.declared.verdict.Reply.{Reply}
-use Rattle.registry_laws.specs.Machines.{IsOfMachine, LeadsTo}
+use Rattle.registry_laws.specs.Machines.{IsOfMachine, LeadsToLater}
 use Rattle.registry_laws.specs.Records.{record_of}
 use Rattle.registry_tables.specs.Rows.{newest}
 use Rattle.registry_store.specs.Files.{IsEither}
@@ -44,7 +44,7 @@ GoesOnByOne x y = (y ≡ x) ⊎ ((line : List ℕ) × Continues x line y)
 pub record LeavesOfMachine (s : State) (log : LogLines) (h : History) : Type 0 where
   pub last : History
   pub next : History
-  pub leads : LeadsTo h last
+  pub leads : LeadsToLater h last
   pub goes_on : GoesOnByOne last next
   pub last_of : IsOfMachine log last
   pub next_of : IsOfMachine log next
@@ -66,14 +66,14 @@ module _ {S : Type 0} {g : Ghosts S} {L : Type 0} (l : LogGhosts L) (lines : L �
 
   -- the same of that history or one to which it leads
   abbrev pub FollowsLater : Registry S g → Cursor L → History → Type 0
-  FollowsLater it c h = (x : History) × LeadsTo h x × Follows it c x
+  FollowsLater it c h = (x : History) × LeadsToLater h x × Follows it c x
 
   module _ (c : Cursor L) (it_new : Registry S g) (c_new : Cursor L) (h : History) where
     -- What stopped a call, and what is left. Whatever it is, each history that a crash may leave begins the log.
     abbrev pub IsLeft : ShareStop → Type 0
     IsLeft (stops.Registry fault) = (poisoned_by it_new ≡ Some fault) × LeavesOfMachine (state_of it_new) (lines c_new.log) h
     IsLeft (stops.Log fault) = FollowsLater it_new c_new h × HasFailed l lines c.log c_new.log fault
-    IsLeft (stops.OtherRecord n) = (x : History) × LeadsTo h x × Follows it_new c_new x × (n ≡ length (record_of x)) × HasOther (lines c.log) (lines c_new.log) x n
+    IsLeft (stops.OtherRecord n) = (x : History) × LeadsToLater h x × Follows it_new c_new x × (n ≡ length (record_of x)) × HasOther (lines c.log) (lines c_new.log) x n
     IsLeft stops.Ahead = ⊥
     IsLeft stops.Empty = ⊥
     IsLeft stops.Full = FollowsLater it_new c_new h × (c_new.next ≡ most_lines)
@@ -82,7 +82,7 @@ module _ {S : Type 0} {g : Ghosts S} {L : Type 0} (l : LogGhosts L) (lines : L �
     -- A page of the log was acted on. If there is no more, the log was the record of the history that is now represented.
     pub record HasFollowedPage (more : Bool) : Type 0 where
       pub now : History
-      pub leads : LeadsTo h now
+      pub leads : LeadsToLater h now
       pub follows : Follows it_new c_new now
       pub grown : Grows (lines c.log) (lines c_new.log)
       pub whole : more ≡ false → WasWhole (lines c.log) (lines c_new.log) now
@@ -90,7 +90,7 @@ module _ {S : Type 0} {g : Ghosts S} {L : Type 0} (l : LogGhosts L) (lines : L �
     -- The whole log was acted on.
     pub record HasFollowed : Type 0 where
       pub now : History
-      pub leads : LeadsTo h now
+      pub leads : LeadsToLater h now
       pub follows : Follows it_new c_new now
       pub whole : WasWhole (lines c.log) (lines c_new.log) now
 
@@ -109,7 +109,7 @@ module _ {S : Type 0} {g : Ghosts S} {L : Type 0} (l : LogGhosts L) (lines : L �
     -- A request got the reply of a history that was the whole log at some instant of the call, and was acted on after it.
     pub record IsAnsweredOverLog (r : Request) (reply : Reply) : Type 0 where
       pub before : History
-      pub leads : LeadsTo h before
+      pub leads : LeadsToLater h before
       pub whole : WasWhole (lines c.log) (lines c_new.log) before
       pub reply_is : reply ≡ reply_to before r
       pub follows : Follows it_new c_new (after_one before r)
@@ -117,7 +117,7 @@ module _ {S : Type 0} {g : Ghosts S} {L : Type 0} (l : LogGhosts L) (lines : L �
     -- the calls so far: the registry follows a later history
     pub record HasGoneOn : Type 0 where
       pub now : History
-      pub leads : LeadsTo h now
+      pub leads : LeadsToLater h now
       pub follows : Follows it_new c_new now
       pub grown : Grows (lines c.log) (lines c_new.log)
 

@@ -9,7 +9,7 @@ use Rattle.registry_rules.specs.declared.deed.Deed.{Deed}
 use Rattle.registry_rules.specs.declared.order.Request.{Request}
 use Rattle.registry_rules.specs.declared.verdict.Verdict.TheVariants.{New}
 use Rattle.registry_wire.specs.Record.{accepted_line}
-use Rattle.registry_laws.specs.Machines.{HasValidFields, LeadsTo}
+use Rattle.registry_laws.specs.Machines.{HasValidFields, LeadsToLater}
 use Rattle.registry_laws.specs.Records.{IsAccepted, record_of}
 use Rattle.registry_tables.specs.Rows.{newest}
 use Rattle.registry_store.specs.Files.{IsEither}
@@ -46,7 +46,7 @@ pub record MayHaveGoneOn (s : State) (h : History) (line : List ℕ) : Type 0 wh
 -- of the first are valid, so are those of the second.
 pub record GoesOver (h : History) (lines : LogLines) (x : History) : Type 0 where
   pub written : record_of x ≡ record_of h ++ lines
-  pub leads : LeadsTo h x
+  pub leads : LeadsToLater h x
   pub valid : HasValidFields h → HasValidFields x
 
 -- the line of a request is the expected one

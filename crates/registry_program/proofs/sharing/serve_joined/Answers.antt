@@ -1,6 +1,6 @@
 use Rattle.std.proofs.Common.{inl, inr, refl, subst}
 use Rattle.registry_program.specs.Outputs.{silent_ends}
-use Rattle.registry_program.specs.Sharing.{AreServedOver, TellsServed}
+use Rattle.registry_program.specs.Sharing.{AreServedOverLog, TellsServed}
 use Rattle.registry_program.proofs.sharing.serve_joined.Goals as goal
 
 pub returns-in-Ok : goal.returns-in-Ok
@@ -12,7 +12,7 @@ returns-in-Ok g c out =
       done = serve.new.connections;
       left = serve.new.cursor;
       end = serve.result;
-      served = subst (λ limit. AreServedOver g.H.Host g.H.Connections g.H.Reader.Source g.H.Writer.Sink g.H.Logs g.H.Log.Log c.listen.new.self serve.new.connections c.args.registry.now serve.new.registry c.args.cursor serve.new.cursor limit serve.result)
+      served = subst (λ limit. AreServedOverLog g.H.Host g.H.Connections g.H.Reader.Source g.H.Writer.Sink g.H.Logs g.H.Log.Log c.listen.new.self serve.new.connections c.args.registry.now serve.new.registry c.args.cursor serve.new.cursor limit serve.result)
           c.limit_of.ensures (record { served = serve.ensures.served; notes = serve.ensures.notes; endures = serve.ensures.endures });
       tells = subst (λ log. TellsServed g.H.Logs serve.new.connections c.end_serving.new.host log serve.result (silent_ends g.E.Sink out c.args.errors.now c.end_serving.new.errors c.end_serving.result))
           c.into_log.ensures (c.end_serving.ensures out);

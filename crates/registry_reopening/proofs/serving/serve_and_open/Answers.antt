@@ -1,4 +1,4 @@
-use Rattle.registry_desk.specs.Server.{fault_in}
+use Rattle.registry_desk.specs.Server.{fault_in_server}
 use Rattle.registry_tables.specs.Rows.{newest}
 use Rattle.registry_reopening.specs.Opening.{StillHolds}
 use Rattle.registry_reopening.proofs.ServedLemmas.{if_reopened}
@@ -16,7 +16,7 @@ returns-in-Ok g c =
       it.4,
       it.5,
       record { last = run.new.registry; served = it.6; poisoned = λ e. (it.7 e).0 },
-      if_reopened c.args.first run.new.registry it.0 (fault_in run.result) it.6 run.ensures.endures (StillHolds g.D.Disk newest) opening.result opening.ensures.represents opening.ensures.clean opening.ensures.is_new opening.ensures.holds,
+      if_reopened c.args.first run.new.registry it.0 (fault_in_server run.result) it.6 run.ensures.endures (StillHolds g.D.Disk newest) opening.result opening.ensures.represents opening.ensures.clean opening.ensures.is_new opening.ensures.holds,
     )
 
 pub returns-in-Err : goal.returns-in-Err
@@ -31,5 +31,5 @@ returns-in-Err g c =
       it.4,
       it.5,
       record { last = run.new.registry; served = it.6; poisoned = λ e. (it.7 e).0 },
-      if_reopened c.args.first run.new.registry it.0 (fault_in run.result) it.6 run.ensures.endures (StillHolds g.D.Disk newest) opening.result opening.ensures.represents opening.ensures.clean opening.ensures.is_new opening.ensures.holds,
+      if_reopened c.args.first run.new.registry it.0 (fault_in_server run.result) it.6 run.ensures.endures (StillHolds g.D.Disk newest) opening.result opening.ensures.represents opening.ensures.clean opening.ensures.is_new opening.ensures.holds,
     )
