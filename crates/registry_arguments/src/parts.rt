@@ -3,7 +3,7 @@
 ghost use Rattle.std.specs.Prelude.{◌≡◌, ◌∷◌, [], IfOk, Some, false, codes};
 ghost use Rattle.clap.specs.Words.{app_of, items_of, rule_of, new_app, with_rule, with_subcommand};
 ghost use Rattle.clap.specs.declared.builder.command.Command.TheViews.{out-Command};
-ghost use Rattle.registry_arguments.specs.Commands.{flag, most_connections, needed_option, numeric, option, optional, positional};
+ghost use Rattle.registry_arguments.specs.Commands.{named_flag, most_connections, needed_option, numeric, option, optional, positional};
 
 use clap::builder::{ValueParser, ValueRange};
 use clap::{Arg, ArgAction, Command};
@@ -77,7 +77,7 @@ pub(crate) fn numeric<'a>(arg: Arg<'a>, low: u64, high: u64) -> Arg<'a>
 /// Returns a flag `--name`. Its action is `Set`, without a default value, so that the matches have
 /// a value of it only where it is used.
 pub(crate) fn flag<'a>(alloc: Global, name: &'a str, help: &'a str) -> Arg<'a>
-    ensures rule { rule_of result ≡ flag name.entry.now }
+    ensures rule { rule_of result ≡ named_flag name.entry.now }
     ensures local { result.global ≡ false }
     ensures texts { result.help ≡ Some help.entry }
 {
@@ -126,7 +126,7 @@ pub(crate) fn with_check<'a>(
     command: Command<'a>,
     help: &'a str,
 ) -> Result<Command<'a>, AllocError>
-    ensures app { IfOk result (λ c. app_of c ≡ with_rule (app_of command.entry) (flag (codes "check"))) }
+    ensures app { IfOk result (λ c. app_of c ≡ with_rule (app_of command.entry) (named_flag (codes "check"))) }
     ensures local { IfOk result (λ c. (out-Command c).has_globals ≡ (out-Command command.entry).has_globals) }
 {
     with_arg(command, flag(alloc, "check", help))
@@ -137,7 +137,7 @@ pub(crate) fn with_vendor<'a>(
     alloc: Global,
     command: Command<'a>,
 ) -> Result<Command<'a>, AllocError>
-    ensures app { IfOk result (λ c. app_of c ≡ with_rule (with_rule (app_of command.entry) (option (codes "vendor"))) (flag (codes "check"))) }
+    ensures app { IfOk result (λ c. app_of c ≡ with_rule (with_rule (app_of command.entry) (option (codes "vendor"))) (named_flag (codes "check"))) }
     ensures local { IfOk result (λ c. (out-Command c).has_globals ≡ (out-Command command.entry).has_globals) }
 {
     let vendor = option(alloc, "vendor", "V", "The vendor, if not the founding one");
@@ -197,7 +197,7 @@ pub(crate) fn with_verbose<'a>(
     alloc: Global,
     command: Command<'a>,
 ) -> Result<Command<'a>, AllocError>
-    ensures app { IfOk result (λ c. app_of c ≡ with_rule (app_of command.entry) (flag (codes "verbose"))) }
+    ensures app { IfOk result (λ c. app_of c ≡ with_rule (app_of command.entry) (named_flag (codes "verbose"))) }
     ensures local { IfOk result (λ c. (out-Command c).has_globals ≡ (out-Command command.entry).has_globals) }
 {
     let verbose = flag(

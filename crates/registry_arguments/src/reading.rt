@@ -2,7 +2,7 @@
 
 ghost use Rattle.std.specs.Prelude.{◌≡◌, ◌≤◌, IfSome, option_copied, option_map};
 ghost use Rattle.clap.specs.Words.{first_of, found_of, rows_of};
-ghost use Rattle.registry_arguments.specs.Commands.{apply_in, check_in, export_in, found_in, head_in, history_in, import_in, is_check, lookup_in, named, number_if_given, number_in, replay_in, report_in, serve_in, share_in, texts};
+ghost use Rattle.registry_arguments.specs.Commands.{apply_in, check_in, export_in, found_in, head_in, history_in, import_in, has_check, lookup_in, named, number_if_given, number_in, replay_in, report_in, serve_in, share_in, texts};
 
 use crate::command::Command;
 use crate::parts::{MOST_CONNECTIONS, MOST_PASSED, MOST_PORT};
@@ -46,7 +46,7 @@ pub(crate) fn value_of<'a>(matches: &ArgMatches<'a>, id: &str) -> Option<&'a str
 
 /// Returns whether the flag `--check` is used.
 fn is_check(matches: &ArgMatches<'_>) -> bool
-    ensures { result ≡ is_check (rows_of (found_of matches.now)) }
+    ensures { result ≡ has_check (rows_of (found_of matches.now)) }
 {
     value_of(matches, "check").is_some()
 }

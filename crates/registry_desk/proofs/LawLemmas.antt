@@ -25,7 +25,7 @@ use Rattle.registry_reports.specs.Holders.{IsHolders, holder_lines}
 use Rattle.registry_reports.specs.Petitions.{petition_lines}
 use Rattle.registry_reports.specs.Numbers.{line_at, lines_to, number_lines}
 use Rattle.registry_reports.specs.Organisations.{org_lines}
-use Rattle.registry_reports.specs.Pages.{FitPage, IsPage, lines_text}
+use Rattle.registry_reports.specs.Pages.{FitPage, IsPage, text_of_lines}
 use Rattle.registry_reports.proofs.UniqueLemmas.{one_list}
 use Rattle.registry_tables.proofs.AscendLemmas.{one_order}
 use Rattle.registry_tables.proofs.ViewLemmas.{same_bytes}
@@ -171,7 +171,7 @@ one_page lines a b is_a is_b = elim (cases_eq (length a) (length b)) [
 ]
 
 one_page_text : (lines : Lines) (a b : List ℕ) → IsPageText lines a → IsPageText lines b → a ≡ b
-one_page_text lines a b is_a is_b = is_a.text_is ∙ (ap lines_text (one_page lines is_a.page is_b.page is_a.is_page is_b.is_page) ∙ sym is_b.text_is)
+one_page_text lines a b is_a is_b = is_a.text_is ∙ (ap text_of_lines (one_page lines is_a.page is_b.page is_a.is_page is_b.is_page) ∙ sym is_b.text_is)
 
 -- ---- responses
 

@@ -8,13 +8,13 @@ use Rattle.serde_json.specs.Written.{items_have_float}
 use Rattle.usbnum_core.specs.declared.number.Span.{Span}
 use Rattle.registry_rules.specs.declared.record.Vendor.{Vendor}
 use Rattle.registry_reports.proofs.ListLemmas.{Joins, joins_next}
-use Rattle.registry_http.specs.Foundings.{span_data, vendor_data}
+use Rattle.registry_http.specs.Foundings.{range_data, vendor_data}
 
 pub texts_plain : (texts : List (List ℕ)) → items_have_float (items_of (map string texts)) ≡ false
 texts_plain [] = refl
 texts_plain (text ∷ texts) = texts_plain texts
 
-pub spans_plain : (spans : List Span) → items_have_float (items_of (map span_data spans)) ≡ false
+pub spans_plain : (spans : List Span) → items_have_float (items_of (map range_data spans)) ≡ false
 spans_plain [] = refl
 spans_plain (span ∷ spans) = spans_plain spans
 

@@ -19,7 +19,7 @@ use Rattle.registry_http.specs.declared.message.Message.{Message}
 use Rattle.registry_http.specs.Heads.{HasHead}
 use Rattle.registry_http.specs.Incomplete.{FailsAfter, HasOpenBody, IsIncomplete}
 use Rattle.registry_http.specs.Messages.{BodySays, HeadSays, Says, as_message}
-use Rattle.registry_http.specs.Reading.{head_in, head_reading}
+use Rattle.registry_http.specs.Reading.{routed_head, head_reading}
 use Rattle.registry_http.proofs.BodyLemmas.{body_short}
 use Rattle.registry_http.proofs.HeadLemmas.{has_head_append, has_no_request_nil}
 use Rattle.registry_http.proofs.MessageLemmas.{head_at_spans}
@@ -58,7 +58,7 @@ open_fed come count first is more less = omega (arith, less, is, length-append c
 -- from the bytes after the head to all bytes
 pub fails_after_head : (a b c : Option (List ℕ)) (f g h : ℕ) (buf : List ℕ) (spans : List HeaderSpan) (r : RequestSpans) (head : RequestHead)
     → HasHead buf head (drop r.len buf) → IsRequestAt buf spans r head → Consumes a b buf → g ≡ f
-    → FailsAfter b c g h (λ more. HasOpenBody (head_in (span_bytes buf r.method) (span_bytes buf r.path) (map (header_bytes buf) (take r.headers spans))) (drop r.len buf ++ more))
+    → FailsAfter b c g h (λ more. HasOpenBody (routed_head (span_bytes buf r.method) (span_bytes buf r.path) (map (header_bytes buf) (take r.headers spans))) (drop r.len buf ++ more))
     → FailsAfter a c f h IsIncomplete
 fails_after_head a b c f g h buf spans r head has at took same fails =
     let more = fails.1.0 in

@@ -21,7 +21,7 @@ use Rattle.registry_http.specs.declared.refusal.HttpRefusal.{HttpRefusal}
 use Rattle.registry_http.specs.declared.refusal.HttpRefusal.TheVariants.{Wire}
 use Rattle.registry_http.specs.Heads.{HasHead}
 use Rattle.registry_http.specs.Bodies.{body_in}
-use Rattle.registry_http.specs.Reading.{head_in, head_reading}
+use Rattle.registry_http.specs.Reading.{routed_head, head_reading}
 use Rattle.registry_http.specs.Messages.{ListSays, WholeBodySays, BodySays, HeadSays, Says, as_message}
 use Rattle.registry_http.specs.declared.route.Endpoint.{Endpoint}
 use Rattle.registry_http.specs.declared.route.Endpoint.TheVariants as endpoints
@@ -80,13 +80,13 @@ message_says_one_thing founding bytes a b (inr x) (inr y) =
     head_says_one_thing founding (head_reading y.0) y.1 a b (subst (λ (rest : List ℕ). HeadSays founding (head_reading y.0) rest a) same.1 head_says) y.3
 
 pub head_at_spans : (buf : List ℕ) (spans : List HeaderSpan) (r : RequestSpans) (h : RequestHead) → IsRequestAt buf spans r h
-    → head_in (span_bytes buf r.method) (span_bytes buf r.path) (map (header_bytes buf) (take r.headers spans)) ≡ head_reading h
+    → routed_head (span_bytes buf r.method) (span_bytes buf r.path) (map (header_bytes buf) (take r.headers spans)) ≡ head_reading h
 head_at_spans buf spans r h at = rw (at.method, at.path, at.fields) refl
 
 -- from the head and all bytes after it to the whole message
 pub says_after_head : (a b : Option (List ℕ)) (founding : ℕ) (buf : List ℕ) (spans : List HeaderSpan) (r : RequestSpans) (h : RequestHead) (said : Result Message HttpRefusal)
     → HasHead buf h (drop r.len buf) → IsRequestAt buf spans r h → Consumes a b buf
-    → (rest : List ℕ) × MayGive b rest × HeadSays founding (head_in (span_bytes buf r.method) (span_bytes buf r.path) (map (header_bytes buf) (take r.headers spans))) (drop r.len buf ++ rest) said
+    → (rest : List ℕ) × MayGive b rest × HeadSays founding (routed_head (span_bytes buf r.method) (span_bytes buf r.path) (map (header_bytes buf) (take r.headers spans))) (drop r.len buf ++ rest) said
     → (bytes : List ℕ) × MayGive a bytes × Says founding bytes said
 says_after_head a b founding buf spans r h said has at took ok = (
   buf ++ ok.0,

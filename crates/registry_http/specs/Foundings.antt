@@ -15,11 +15,11 @@ abbrev pub texts_data : List (List ℕ) → Data
 texts_data texts = array (items_of (map string texts))
 
 -- for example `2000-20ff`
-abbrev pub span_data : Span → Data
-span_data span = string (range_text span.first span.last)
+abbrev pub range_data : Span → Data
+range_data span = string (range_text span.first span.last)
 
 abbrev pub spans_data : List Span → Data
-spans_data spans = array (items_of (map span_data spans))
+spans_data spans = array (items_of (map range_data spans))
 
 -- a vendor with its name
 abbrev pub vendor_data : Vendor → Data

@@ -37,8 +37,8 @@ abbrev pub header_in : Header → Fields → Option (List ℕ)
 header_in header fields = only (values_of (header_name header) fields)
 
 -- the time, if there is a field with its name
-abbrev pub time_in : Fields → Result (Option (List ℕ)) HttpRefusal
-time_in fields = if has_field (header_name Time) fields then found_or (BadHeader Time) (option_map Some (option_and_then time_of (header_in Time fields))) else Ok None
+abbrev pub time_in_fields : Fields → Result (Option (List ℕ)) HttpRefusal
+time_in_fields fields = if has_field (header_name Time) fields then found_or (BadHeader Time) (option_map Some (option_and_then time_of (header_in Time fields))) else Ok None
 
 -- the most bytes that a body may have
 abbrev pub body_limit : Endpoint → ℕ
@@ -55,7 +55,7 @@ order_head endpoint fields = do
   length ← within (body_limit endpoint) wanted
   caller ← found_or (BadHeader Caller) (option_and_then slug_of (header_in Caller fields))
   key ← found_or (BadHeader Key) (option_and_then key_of (header_in Key fields))
-  time ← time_in fields
+  time ← time_in_fields fields
   Ok (heads.Order (record { endpoint = endpoint; length = length; caller = caller; key = key; time = time }))
 
 unfoldable pub head_for : Route → List ℕ → Fields → Result Head HttpRefusal
@@ -63,11 +63,11 @@ head_for (Get query) method fields = if bytes_eq method (codes "GET") then Ok (h
 head_for (Post endpoint) method fields = if bytes_eq method (codes "POST") then order_head endpoint fields else Err (WrongMethod allowed.Post)
 
 -- checks the path (24), then the method (25), then the parts of an order
-unfoldable pub head_in : List ℕ → List ℕ → Fields → Result Head HttpRefusal
-head_in method target fields = do
+unfoldable pub routed_head : List ℕ → List ℕ → Fields → Result Head HttpRefusal
+routed_head method target fields = do
   route ← found_or NoRoute (route_of target)
   head_for route method fields
 
 -- the query or order that a head asks for, or its first fault
 abbrev pub head_reading : RequestHead → Result Head HttpRefusal
-head_reading head = head_in head.method head.target (map name_and_value head.fields)
+head_reading head = routed_head head.method head.target (map name_and_value head.fields)

@@ -4,7 +4,7 @@ ghost use Rattle.std.specs.Prelude.{◌≡◌, ◌++◌, ◌∷◌, [], ℕ, Lis
 ghost use Rattle.serde_json.specs.View.{view, members_view, items_view};
 ghost use Rattle.serde_json.specs.Data.{string, put};
 ghost use Rattle.serde_json.specs.Written.{has_float, items_have_float, members_have_float};
-ghost use Rattle.registry_http.specs.Foundings.{texts_data, span_data, spans_data, vendor_data, vendors_data, put_lists, put_names, founding_members, founding_response};
+ghost use Rattle.registry_http.specs.Foundings.{texts_data, range_data, spans_data, vendor_data, vendors_data, put_lists, put_names, founding_members, founding_response};
 
 use crate::json_object::{object_value, put_array, put_text, text_value};
 use crate::resources::found_response;
@@ -32,7 +32,7 @@ fn put_texts<R: TextRule>(
 }
 
 fn span_value(alloc: Global, span: &Span) -> Result<Value, NoMemory>
-    ensures { IfOk result (λ value. view value ≡ span_data span.now) }
+    ensures { IfOk result (λ value. view value ≡ range_data span.now) }
 {
     Ok(Value::String(span.to_string(alloc)?))
 }

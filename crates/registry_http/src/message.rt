@@ -6,7 +6,7 @@ ghost use Rattle.httparse.specs.Spans.{IsRequestWithin, span_bytes, header_bytes
 ghost use Rattle.registry_rules.specs.Gives.{Gives};
 ghost use Rattle.registry_http.specs.Bodies.{body_in, IsFed};
 ghost use Rattle.registry_http.specs.declared.route.Endpoint.TheVariants as endpoints;
-ghost use Rattle.registry_http.specs.Reading.{head_in};
+ghost use Rattle.registry_http.specs.Reading.{routed_head};
 ghost use Rattle.registry_http.specs.Incomplete.{FailsAfter, HasOpenBody, IsIncomplete};
 ghost use Rattle.registry_http.specs.Routes.{templates};
 ghost use Rattle.registry_http.specs.Messages.{BodySays, HeadSays, Says};
@@ -161,7 +161,7 @@ fn head_at(
 ) -> Result<Head, Rejection<HttpRefusal>>
     requires within { IsRequestWithin buffer.now spans.now head }
     requires whole { router.now ≡ templates }
-    ensures { Gives result (head_in (span_bytes buffer.now head.method) (span_bytes buffer.now head.path) (map (header_bytes buffer.now) (take head.headers spans.now))) }
+    ensures { Gives result (routed_head (span_bytes buffer.now head.method) (span_bytes buffer.now head.path) (map (header_bytes buffer.now) (take head.headers spans.now))) }
 {
     head_in(
         alloc,
@@ -214,10 +214,10 @@ fn read_after_head<R: Source>(
     requires front { head.len ≤ MOST_HEAD }
     requires whole { router.now ≡ templates }
     ensures ok { IfSaid result (λ said. (rest : List ℕ) × MayGive (R.remaining source.old) rest
-        × HeadSays founding (head_in (span_bytes buffer.old.items head.method) (span_bytes buffer.old.items head.path) (map (header_bytes buffer.old.items) (take head.headers spans.now))) (drop head.len buffer.old.items ++ rest) said) }
+        × HeadSays founding (routed_head (span_bytes buffer.old.items head.method) (span_bytes buffer.old.items head.path) (map (header_bytes buffer.old.items) (take head.headers spans.now))) (drop head.len buffer.old.items ++ rest) said) }
     ensures kept { IfSaid result (λ said. R.failures source.new ≡ R.failures source.old) }
     ensures short { result ≡ Err MessageFault.NoMemory → R.failures source.new ≡ R.failures source.old }
-    ensures broken { result ≡ Err MessageFault.Broken → FailsAfter (R.remaining source.old) (R.remaining source.new) (R.failures source.old) (R.failures source.new) (λ more. HasOpenBody (head_in (span_bytes buffer.old.items head.method) (span_bytes buffer.old.items head.path) (map (header_bytes buffer.old.items) (take head.headers spans.now))) (drop head.len buffer.old.items ++ more)) }
+    ensures broken { result ≡ Err MessageFault.Broken → FailsAfter (R.remaining source.old) (R.remaining source.new) (R.failures source.old) (R.failures source.new) (λ more. HasOpenBody (routed_head (span_bytes buffer.old.items head.method) (span_bytes buffer.old.items head.path) (map (header_bytes buffer.old.items) (take head.headers spans.now))) (drop head.len buffer.old.items ++ more)) }
 {
     let call = head_at(alloc, router, buffer, spans, head)?;
     read_rest(alloc, source, buffer, head.len, founding, call)

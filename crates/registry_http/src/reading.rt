@@ -6,7 +6,7 @@ ghost use Rattle.registry_rules.specs.Gives.{Gives};
 ghost use Rattle.registry_http.specs.Refusals.{found_or};
 ghost use Rattle.registry_wire.specs.Kinds.{slug_of, key_of, time_of};
 ghost use Rattle.registry_http.specs.Routes.{templates};
-ghost use Rattle.registry_http.specs.Reading.{length_in, header_in, time_in, body_limit, within, order_head, head_for, head_in};
+ghost use Rattle.registry_http.specs.Reading.{length_in, header_in, time_in_fields, body_limit, within, order_head, head_for, routed_head};
 ghost use Rattle.registry_http.specs.declared.refusal.HttpRefusal.TheVariants as refusals;
 ghost use Rattle.registry_http.specs.declared.refusal.Header.TheVariants as headers;
 
@@ -140,7 +140,7 @@ fn time_at(
     spans: &[HeaderSpan],
 ) -> Result<Option<Time>, Rejection<HttpRefusal>>
     requires { All (IsHeaderWithin (length buffer.now)) spans.now }
-    ensures { Gives result (time_in (map (header_bytes buffer.now) spans.now)) }
+    ensures { Gives result (time_in_fields (map (header_bytes buffer.now) spans.now)) }
 {
     if !has_field(buffer, spans, Header::Time.name().as_bytes()) {
         return Ok(None);
@@ -214,7 +214,7 @@ fn head_for(
 }
 
 /// Returns the query or order that this method, target and fields ask for, or the first fault.
-#[tactic(auto, unfolding(crate::specs::Reading::head_in))]
+#[tactic(auto, unfolding(crate::specs::Reading::routed_head))]
 pub(crate) fn head_in(
     alloc: Global,
     router: &Router<Template>,
@@ -225,7 +225,7 @@ pub(crate) fn head_in(
 ) -> Result<Head, Rejection<HttpRefusal>>
     requires within { All (IsHeaderWithin (length buffer.now)) spans.now }
     requires whole { router.now ≡ templates }
-    ensures { Gives result (head_in method.now target.now (map (header_bytes buffer.now) spans.now)) }
+    ensures { Gives result (routed_head method.now target.now (map (header_bytes buffer.now) spans.now)) }
 {
     match route_of(alloc, router, target)? {
         Some(route) => head_for(alloc, route, method, buffer, spans),

@@ -11,7 +11,7 @@ use Rattle.usbnum_core.specs.declared.number.Number.{Number}
 use Rattle.usbnum_core.specs.declared.number.Span.{Span}
 use Rattle.registry_rules.specs.Number.{number, number_eq}
 use Rattle.registry_rules.specs.declared.record.Org.{Org}
-use Rattle.registry_reports.specs.Order.{by_number, Ascends}
+use Rattle.registry_reports.specs.Order.{by_ids, Ascends}
 use Rattle.registry_reports.specs.Census.{listed}
 use Rattle.registry_reports.specs.Organisations.{org_line, org_lines}
 use Rattle.registry_reports.specs.Numbers.{lines_to, line_at, number_lines, listed_entry, ComesBefore, ArePassed, IsPlace}
@@ -97,7 +97,7 @@ is_less a b l = grind arith
 past : (a b : ℕ) (d : Ordering) → b < a → ordering_then (nat_cmp a b) d ≡ Less → ⊥
 past a b d more less = let e : nat_cmp a b ≡ Greater = grind arith in let never : Greater ≡ Less = ap (λ (o : Ordering). ordering_then o d) (sym e) ∙ less in cc
 
-ordered : (x y : Pair) → by_number x y ≡ Less → Precedes x.0 y
+ordered : (x y : Pair) → by_ids x y ≡ Less → Precedes x.0 y
 ordered x y less = elim (cases_lt x.0.vid y.0.vid) [
   | inl below ↦ inl below
   | inr more ↦ elim (cases_eq x.0.vid y.0.vid) [
@@ -116,10 +116,10 @@ unlike_later : (n : Number) (x : Pair) → Precedes n x → number_eq n x.0 ≡ 
 unlike_later n x (inl less) = let e : nat_eq n.vid x.0.vid ≡ false = ne_eqb n.vid x.0.vid (λ s. omega (arith, s, less)) in rw e refl
 unlike_later n x (inr same) = let e : nat_eq n.pid x.0.pid ≡ false = let less = same.1 in ne_eqb n.pid x.0.pid (λ s. omega (arith, s, less)) in elim (cases_Bool (nat_eq n.vid x.0.vid)) [ inl v ↦ rw (v, e) refl | inr v ↦ rw v refl ]
 
-follows : (n : Number) (x y : Pair) → Precedes n x → by_number x y ≡ Less → number_eq n y.0 ≡ false
+follows : (n : Number) (x y : Pair) → Precedes n x → by_ids x y ≡ Less → number_eq n y.0 ≡ false
 follows n x y before less = unlike_later n y (both_precede n x y before (ordered x y less))
 
-none_after : (n : Number) (x : Pair) (ys : List Pair) → Precedes n x → AllByRecursion (λ y. by_number x y ≡ Less) ys → listed ys n ≡ None
+none_after : (n : Number) (x : Pair) (ys : List Pair) → Precedes n x → AllByRecursion (λ y. by_ids x y ≡ Less) ys → listed ys n ≡ None
 none_after n x [] before below = refl
 none_after n x (y ∷ ys) before below = rw (follows n x y before below.0) (none_after n x ys before below.1)
 

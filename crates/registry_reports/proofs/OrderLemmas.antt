@@ -10,7 +10,7 @@ use Rattle.std.proofs.lemmas.Map.Keys.{IsStrictlyIncreasing-from_sorted}
 use Rattle.usbids_text.specs.Entries.{MidEntry, TopEntry}
 use Rattle.usbids_text.proofs.EntryLemmas.{both}
 use Rattle.registry_rules.specs.declared.record.Vendor.{Vendor}
-use Rattle.registry_reports.specs.Order.{by_number, Ascends}
+use Rattle.registry_reports.specs.Order.{by_ids, Ascends}
 use Rattle.registry_reports.specs.Listing.{device_of, devices_of, is_held_of, top_of, list_of}
 use Rattle.registry_reports.specs.History.{IsDevice, IsVendorOfDevices}
 use Rattle.registry_reports.proofs.CensusLemmas.{Pair}
@@ -24,7 +24,7 @@ level n = grind arith
 pub then_less : (a b : ℕ) (d : Ordering) → a ≡ b → ordering_then (nat_cmp a b) d ≡ Less → d ≡ Less
 then_less a b d same e = let tie : nat_cmp a b ≡ Equal = ap (nat_cmp a) (sym same) ∙ level a in sym (ap (λ (o : Ordering). ordering_then o d) tie) ∙ e
 
-above : (x : Pair) (vid : ℕ) (ys : List Pair) → AllByRecursion (λ y. by_number x y ≡ Less) ys → nat_eq x.0.vid vid ≡ true → AllByRecursion (λ code. nat_cmp x.0.pid code ≡ Less) (mid_codes (devices_of vid ys))
+above : (x : Pair) (vid : ℕ) (ys : List Pair) → AllByRecursion (λ y. by_ids x y ≡ Less) ys → nat_eq x.0.vid vid ≡ true → AllByRecursion (λ code. nat_cmp x.0.pid code ≡ Less) (mid_codes (devices_of vid ys))
 above x vid [] below same = tt
 above x vid (y ∷ ys) below same = elim (cases_Bool (is_held_of vid y)) [
   | inr e ↦ rw e (above x vid ys below.1 same)

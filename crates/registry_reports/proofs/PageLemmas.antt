@@ -3,34 +3,34 @@ use Rattle.std.proofs.Common.{◌≡◌, ℕ, ◌+◌, ◌-◌, ◌/◌, ◌<◌
 use Rattle.std.specs.Prelude.{nat_lt, if◌then◌else◌}
 use Rattle.std.proofs.lemmas.Bool.{lt-ltb}
 use Rattle.std.proofs.lemmas.List.{append-nil, length-append}
-use Rattle.registry_reports.specs.Pages.{lines_text, wanted_lines, MayFollow}
+use Rattle.registry_reports.specs.Pages.{text_of_lines, wanted_lines, MayFollow}
 
-pub text_push : (lines : List (List ℕ)) (line : List ℕ) → lines_text (lines ++ line ∷ []) ≡ lines_text lines ++ line ++ 10 ∷ []
+pub text_push : (lines : List (List ℕ)) (line : List ℕ) → text_of_lines (lines ++ line ∷ []) ≡ text_of_lines lines ++ line ++ 10 ∷ []
 text_push [] line = append-nil (line ++ 10 ∷ [])
 text_push (x ∷ lines) line =
     ap (λ (t : List ℕ). x ++ 10 ∷ [] ++ t) (text_push lines line)
-    ∙ (sym (append_assoc (x ++ 10 ∷ []) (lines_text lines ++ line) (10 ∷ [])) ∙ ap (λ (t : List ℕ). t ++ 10 ∷ []) (sym (append_assoc (x ++ 10 ∷ []) (lines_text lines) line)))
+    ∙ (sym (append_assoc (x ++ 10 ∷ []) (text_of_lines lines ++ line) (10 ∷ [])) ∙ ap (λ (t : List ℕ). t ++ 10 ∷ []) (sym (append_assoc (x ++ 10 ∷ []) (text_of_lines lines) line)))
 
-pub text_more : (lines : List (List ℕ)) (line : List ℕ) → length (lines_text (lines ++ line ∷ [])) ≡ length (lines_text lines) + length line + 1
-text_more lines line = ap length (text_push lines line) ∙ (length-append (lines_text lines ++ line) (10 ∷ []) ∙ ap (λ (n : ℕ). n + 1) (length-append (lines_text lines) line))
+pub text_more : (lines : List (List ℕ)) (line : List ℕ) → length (text_of_lines (lines ++ line ∷ [])) ≡ length (text_of_lines lines) + length line + 1
+text_more lines line = ap length (text_push lines line) ∙ (length-append (text_of_lines lines ++ line) (10 ∷ []) ∙ ap (λ (n : ℕ). n + 1) (length-append (text_of_lines lines) line))
 
 pub count_more : (lines : List (List ℕ)) (line : List ℕ) → length (lines ++ line ∷ []) ≡ length lines + 1
 count_more lines line = length-append lines (line ∷ [])
 
 -- there is room for the line
-pub room_follows : (lines : List (List ℕ)) (line : List ℕ) (count bytes room : ℕ) → count ≡ length lines → bytes ≡ length (lines_text lines) → count < 1000 → room ≡ 1048576 - bytes → length line < room → MayFollow lines line
+pub room_follows : (lines : List (List ℕ)) (line : List ℕ) (count bytes room : ℕ) → count ≡ length lines → bytes ≡ length (text_of_lines lines) → count < 1000 → room ≡ 1048576 - bytes → length line < room → MayFollow lines line
 room_follows lines line count bytes room is_count is_bytes few is_room fits = inr (record {
   count = omega (arith, count_more lines line, is_count, few);
   bytes = omega (arith, text_more lines line, is_bytes, is_room, fits);
 })
 
-pub follows_room : (lines : List (List ℕ)) (line : List ℕ) (count bytes room : ℕ) → count ≡ length lines → bytes ≡ length (lines_text lines) → ¬ (count ≡ 0) → room ≡ 1048576 - bytes → MayFollow lines line → length line < room
+pub follows_room : (lines : List (List ℕ)) (line : List ℕ) (count bytes room : ℕ) → count ≡ length lines → bytes ≡ length (text_of_lines lines) → ¬ (count ≡ 0) → room ≡ 1048576 - bytes → MayFollow lines line → length line < room
 follows_room lines line count bytes room is_count is_bytes some is_room (inl none) = absurd (some (is_count ∙ ap length none))
 follows_room lines line count bytes room is_count is_bytes some is_room (inr fit) = let b = fit.bytes in omega (arith, text_more lines line, is_bytes, is_room, b)
 
 -- a page that takes a line has room
-follows_bytes : (lines : List (List ℕ)) (line : List ℕ) (bytes : ℕ) → bytes ≡ length (lines_text lines) → MayFollow lines line → bytes < 1048576
-follows_bytes lines line bytes is (inl none) = let empty : length (lines_text lines) ≡ 0 = ap (λ (l : List (List ℕ)). length (lines_text l)) none in omega (arith, empty, is)
+follows_bytes : (lines : List (List ℕ)) (line : List ℕ) (bytes : ℕ) → bytes ≡ length (text_of_lines lines) → MayFollow lines line → bytes < 1048576
+follows_bytes lines line bytes is (inl none) = let empty : length (text_of_lines lines) ≡ 0 = ap (λ (l : List (List ℕ)). length (text_of_lines l)) none in omega (arith, empty, is)
 follows_bytes lines line bytes is (inr fit) = let b = fit.bytes in omega (arith, text_more lines line, b, is)
 
 follows_count : (lines : List (List ℕ)) (line : List ℕ) (count : ℕ) → count ≡ length lines → MayFollow lines line → count < 1000
@@ -46,5 +46,5 @@ some_wanted count bytes short few =
     go false = omega arith
 
 -- a page that takes a line wants one
-pub wants_some : (lines : List (List ℕ)) (line : List ℕ) (count bytes : ℕ) → count ≡ length lines → bytes ≡ length (lines_text lines) → MayFollow lines line → 0 < wanted_lines count bytes
+pub wants_some : (lines : List (List ℕ)) (line : List ℕ) (count bytes : ℕ) → count ≡ length lines → bytes ≡ length (text_of_lines lines) → MayFollow lines line → 0 < wanted_lines count bytes
 wants_some lines line count bytes is_count is_bytes may = some_wanted count bytes (follows_bytes lines line bytes is_bytes may) (follows_count lines line count is_count may)

@@ -4,14 +4,14 @@ use Rattle.std.specs.String.{string_bytes}
 use Rattle.registry_reports.specs.declared.page.Page.{Page}
 
 -- the lines, each ended by a line feed
-abbrev pub lines_text : List (List ℕ) → List ℕ
-lines_text [] = []
-lines_text (line ∷ lines) = line ++ 10 ∷ [] ++ lines_text lines
+abbrev pub text_of_lines : List (List ℕ) → List ℕ
+text_of_lines [] = []
+text_of_lines (line ∷ lines) = line ++ 10 ∷ [] ++ text_of_lines lines
 
 -- at most 1,000 lines, of at most 1,048,576 bytes
 pub record FitPage (lines : List (List ℕ)) : Type 0 where
   pub count : length lines ≤ 1000
-  pub bytes : length (lines_text lines) ≤ 1048576
+  pub bytes : length (text_of_lines lines) ≤ 1048576
 
 -- the page of the lines: their longest beginning that fits, or the first line alone if it is longer
 pub record IsPage (lines page : List (List ℕ)) : Type 0 where
@@ -22,7 +22,7 @@ pub record IsPage (lines page : List (List ℕ)) : Type 0 where
 
 -- the page has these lines so far
 abbrev pub HasLines : Page → List (List ℕ) → Type 0
-HasLines page lines = (string_bytes page.text ≡ lines_text lines) × (page.count ≡ length lines)
+HasLines page lines = (string_bytes page.text ≡ text_of_lines lines) × (page.count ≡ length lines)
 
 -- the line may follow these lines on a page: it is the first, or all of them fit
 abbrev pub MayFollow : List (List ℕ) → List ℕ → Type 0

@@ -12,7 +12,7 @@ use Rattle.registry_tables.specs.Rows.{newest, meta_of, AreRecords, IsRecorded}
 use Rattle.registry_tables.specs.Written.{FillsAll}
 use Rattle.registry_tables.proofs.FillLemmas.{undigested, filled_now}
 use Rattle.table_laws.specs.Making.{HasMore}
-use Rattle.registry_old_rows.specs.Old.{with_version, at_version, vendor_in, HasOneVendor}
+use Rattle.registry_old_rows.specs.Old.{with_version, at_version, vendor_of_meta, HasOneVendor}
 use Rattle.registry_old_rows.specs.Between.{HoldsSecond, HoldsBoth}
 use Rattle.registry_old_rows.specs.Steps.{Second}
 use Rattle.registry_rows.specs.Steps.{Tells}
@@ -80,7 +80,7 @@ pub same_values : (db : Database) (t : Tables) (h : History) → AreRecords h t 
 same_values db t h had one meta is holds =
     let metas : insert_by meta_key (map (at_version 2) t.metas) (meta_by 5 meta.vendor meta.name) ≡ t.metas =
     ap (λ l. insert_by meta_key (map (at_version 2) l) (meta_by 5 meta.vendor meta.name)) had.metas ∙ ap (λ (m : Meta). meta_by 5 m.vendor m.name ∷ []) is ∙ sym had.metas in
-    let only : (record { vid = meta.vendor; name = meta.name } ∷ []) ≡ t.vendors = ap (λ (m : Meta). vendor_in m ∷ []) is ∙ sym (one ∙ ap (map vendor_in) had.metas) in
+    let only : (record { vid = meta.vendor; name = meta.name } ∷ []) ≡ t.vendors = ap (λ (m : Meta). vendor_of_meta m ∷ []) is ∙ sym (one ∙ ap (map vendor_of_meta) had.metas) in
     subst (λ vs. Holds db (record t { vendors = vs; digests = []; reasons = []; opened = []; closed = [] })) only (subst (λ ms. Holds db (record t { vendors = record { vid = meta.vendor; name = meta.name } ∷ []; metas = ms; digests = []; reasons = []; opened = []; closed = [] })) metas holds)
 
 -- a history held in the second schema is in a store marked with version 2

@@ -9,7 +9,7 @@ use Rattle.std.proofs.lemmas.Bool.{cases_lt}
 use Rattle.registry_rules.specs.Accepted.{accepted_of}
 use Rattle.registry_rules.specs.History.{History}
 use Rattle.registry_rules.specs.declared.accepted.Accepted.{Accepted}
-use Rattle.registry_reports.specs.Pages.{FitPage, HasLines, MayFollow, lines_text}
+use Rattle.registry_reports.specs.Pages.{FitPage, HasLines, MayFollow, text_of_lines}
 use Rattle.registry_reports.specs.declared.page.Page.{Page}
 use Rattle.registry_wire.specs.Record.{accepted_line}
 use Rattle.registry_views.specs.Records.{AreNext, IsBegun, IsPageText, lines_after}
@@ -25,11 +25,11 @@ drop_drop zero b xs = ap (λ (n : ℕ). drop n xs) (sym (zero-add b))
 drop_drop (suc a) b [] = drop_nil b ∙ sym (drop_nil (suc a + b))
 drop_drop (suc a) b (x ∷ xs) = let e : suc a + b ≡ suc (a + b) = omega arith in drop_drop a b xs ∙ ap (λ (n : ℕ). drop n (x ∷ xs)) (sym e)
 
-size_more : (x : List ℕ) (lines : List (List ℕ)) → length (lines_text (x ∷ lines)) ≡ length x + 1 + length (lines_text lines)
-size_more x lines = length-append (x ++ 10 ∷ []) (lines_text lines) ∙ ap (λ (n : ℕ). n + length (lines_text lines)) (length-append x (10 ∷ []))
+size_more : (x : List ℕ) (lines : List (List ℕ)) → length (text_of_lines (x ∷ lines)) ≡ length x + 1 + length (text_of_lines lines)
+size_more x lines = length-append (x ++ 10 ∷ []) (text_of_lines lines) ∙ ap (λ (n : ℕ). n + length (text_of_lines lines)) (length-append x (10 ∷ []))
 
 -- more lines have no less bytes
-bytes_more : (a b : ℕ) (lines : List (List ℕ)) → a ≤ b → length (lines_text (take a lines)) ≤ length (lines_text (take b lines))
+bytes_more : (a b : ℕ) (lines : List (List ℕ)) → a ≤ b → length (text_of_lines (take a lines)) ≤ length (text_of_lines (take b lines))
 bytes_more zero b lines le = omega arith
 bytes_more (suc a) zero lines le = absurd (omega (arith, le))
 bytes_more (suc a) (suc b) [] le = omega arith
@@ -101,7 +101,7 @@ ended_whole lines page begun all =
         longest = λ n more inside fit. omega (arith, more, inside);
         first = λ some. some;
       };
-      text_is = begun.has.0 ∙ ap lines_text front;
+      text_is = begun.has.0 ∙ ap text_of_lines front;
     }
 
 -- or if no line may follow

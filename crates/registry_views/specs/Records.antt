@@ -3,7 +3,7 @@ use Rattle.std.specs.Prelude.{◌≡◌, ℕ, ◌<◌, ◌≤◌, List, length, 
 use Rattle.registry_rules.specs.Accepted.{AreValid, accepted_of}
 use Rattle.registry_rules.specs.History.{History}
 use Rattle.registry_rules.specs.declared.accepted.Accepted.{Accepted}
-use Rattle.registry_reports.specs.Pages.{FitPage, HasLines, IsPage, lines_text}
+use Rattle.registry_reports.specs.Pages.{FitPage, HasLines, IsPage, text_of_lines}
 use Rattle.registry_reports.specs.declared.page.Page.{Page}
 use Rattle.registry_wire.specs.Record.{accepted_line}
 
@@ -15,7 +15,7 @@ lines_after h after = map accepted_line (drop after (accepted_of h.deeds))
 pub record IsPageText (lines : List (List ℕ)) (text : List ℕ) : Type 0 where
   pub page : List (List ℕ)
   pub is_page : IsPage lines page
-  pub text_is : text ≡ lines_text page
+  pub text_is : text ≡ text_of_lines page
 
 -- the text is a page of the record, if its requests have valid fields
 abbrev pub IsRecordPage : History → ℕ → List ℕ → Type 0

@@ -7,7 +7,7 @@
 
 ghost use Rattle.std.specs.Prelude.{◌≡◌, ⊤, length, IfOk, None};
 ghost use Rattle.usbids_text.specs.Writing.{written};
-ghost use Rattle.usbids_bench.specs.Counts.{counted, leaves_below, mids_in, leaves_in};
+ghost use Rattle.usbids_bench.specs.Counts.{capped_count, leaves_below, mids_in, leaves_under};
 
 use byte_streams::{Broken, ByteReader, Inlet, Outlet, Source};
 use std::alloc::{AllocError, Global};
@@ -26,7 +26,7 @@ struct Counts {
 }
 
 fn leaves_of(mids: &[Mid]) -> usize
-    ensures { result ≡ counted (leaves_below mids.now) }
+    ensures { result ≡ capped_count (leaves_below mids.now) }
 {
     let mut leaves = 0usize;
     for mid in mids {
@@ -37,8 +37,8 @@ fn leaves_of(mids: &[Mid]) -> usize
 
 fn counts_of(document: &Document) -> Counts
     ensures tops { result.tops ≡ length document.now }
-    ensures mids { result.mids ≡ counted (mids_in document.now) }
-    ensures leaves { result.leaves ≡ counted (leaves_in document.now) }
+    ensures mids { result.mids ≡ capped_count (mids_in document.now) }
+    ensures leaves { result.leaves ≡ capped_count (leaves_under document.now) }
 {
     let tops = document.tops();
     let mut mids = 0usize;
