@@ -9,18 +9,18 @@ use Rattle.etcd_messages.specs.declared.endpoint.Endpoint.{Endpoint}
 use Rattle.etcd_messages.specs.declared.endpoint.Endpoint.TheVariants as endpoints
 use Rattle.etcd_messages.specs.declared.fault.AnswerFault.{AnswerFault}
 use Rattle.etcd_messages.specs.Requests.{append_request, page_request, head_request}
-use Rattle.etcd_messages.specs.Answers.{append_reading, page_reading, head_reading}
+use Rattle.etcd_messages.specs.Answers.{append_reading, page_reading, log_head_reading}
 use Rattle.http_exchange.specs.declared.connection.Connection.{Ghosts}
 use Rattle.etcd_client.specs.declared.fault.CallFault.{CallFault}
 use Rattle.etcd_client.specs.declared.fault.CallFault.TheVariants as faults
 use Rattle.etcd_client.specs.declared.session.Session.{Session}
 use Rattle.etcd_client.specs.declared.log.EtcdLog.{EtcdLog}
 use Rattle.etcd_client.specs.Faults.{log_fault}
-use Rattle.etcd_client.specs.Sessions.{Asks, AskFails, HasFault}
+use Rattle.etcd_client.specs.Sessions.{Asks, AskFails, HasAnswerFault}
 
 -- the most lines of one page
-abbrev pub most_lines : ℕ
-most_lines = 1000
+abbrev pub most_page_lines : ℕ
+most_page_lines = 1000
 
 -- the body of the message to append a line to the log with this name
 abbrev pub append_body : List ℕ → ℕ → List ℕ → List ℕ
@@ -28,7 +28,7 @@ append_body name n line = compact_text (append_request name n line)
 
 -- the body of the message to read lines of it
 abbrev pub page_body : List ℕ → ℕ → List ℕ
-page_body name n = compact_text (page_request name n most_lines)
+page_body name n = compact_text (page_request name n most_page_lines)
 
 -- the body of the message to read its head
 abbrev pub head_body : List ℕ → List ℕ
@@ -45,7 +45,7 @@ pub record Gets {C A : Type 0} (g : Ghosts C) (old new : Session C) (endpoint : 
 pub data GetsNone {C A : Type 0} (g : Ghosts C) (old new : Session C) (endpoint : Endpoint) (body : List ℕ) (reading : ℕ → List ℕ → Result A AnswerFault) (fault : CallFault) : Type 0 where
   not_sent : fault ≡ faults.NoMemory → new ≡ old → GetsNone g old new endpoint body reading fault
   not_answered : AskFails g old new endpoint body fault → GetsNone g old new endpoint body reading fault
-  not_read : (status : ℕ) (answer : List ℕ) → Asks g old new endpoint body status answer → HasFault (reading status answer) fault → GetsNone g old new endpoint body reading fault
+  not_read : (status : ℕ) (answer : List ℕ) → Asks g old new endpoint body status answer → HasAnswerFault (reading status answer) fault → GetsNone g old new endpoint body reading fault
 
 -- a log with this name at this host: no connection is kept, and no user is logged in
 abbrev pub new_log : {C : Type 0} → C → List ℕ → List ℕ → Option (List ℕ × List ℕ) → EtcdLog C
@@ -56,8 +56,8 @@ new_log connection host name user = record {
 }
 
 -- the fault of the last call without an answer
-abbrev pub fault_of : {C : Type 0} → EtcdLog C → Option CallFault
-fault_of log = log.fault
+abbrev pub last_fault : {C : Type 0} → EtcdLog C → Option CallFault
+last_fault log = log.fault
 
 -- nothing but the session has changed
 abbrev pub IsSame : {C : Type 0} → EtcdLog C → EtcdLog C → Type 0
@@ -73,13 +73,13 @@ pub record Appends {C : Type 0} (g : Ghosts C) (old new : EtcdLog C) (n : ℕ) (
   pub same : IsSame old new
 
 -- lines were to be read, and this is what the answer says
-pub record Reads {C : Type 0} (g : Ghosts C) (old new : EtcdLog C) (n : ℕ) (answer : PageAnswer) : Type 0 where
+pub record ReadsPage {C : Type 0} (g : Ghosts C) (old new : EtcdLog C) (n : ℕ) (answer : PageAnswer) : Type 0 where
   pub gets : Gets g old.session new.session endpoints.Read (page_body old.name n) (page_reading old.name n) answer
   pub same : IsSame old new
 
 -- the head was to be read, and this is what the answer says
 pub record LooksAt {C : Type 0} (g : Ghosts C) (old new : EtcdLog C) (answer : HeadAnswer) : Type 0 where
-  pub gets : Gets g old.session new.session endpoints.Read (head_body old.name) (head_reading old.name) answer
+  pub gets : Gets g old.session new.session endpoints.Read (head_body old.name) (log_head_reading old.name) answer
   pub same : IsSame old new
 
 -- the line was to be appended, and there is no answer; this error is what the fault that is kept is for one who uses the log
@@ -90,7 +90,7 @@ pub record AppendFails {C : Type 0} (g : Ghosts C) (old new : EtcdLog C) (n : �
   pub kind : error ≡ log_fault fault
 
 -- the same of lines that were to be read
-pub record ReadFails {C : Type 0} (g : Ghosts C) (old new : EtcdLog C) (n : ℕ) (error : LogFault) : Type 0 where
+pub record PageFails {C : Type 0} (g : Ghosts C) (old new : EtcdLog C) (n : ℕ) (error : LogFault) : Type 0 where
   pub fault : CallFault
   pub none : GetsNone g old.session new.session endpoints.Read (page_body old.name n) (page_reading old.name n) fault
   pub kept : Keeps old new fault
@@ -99,12 +99,12 @@ pub record ReadFails {C : Type 0} (g : Ghosts C) (old new : EtcdLog C) (n : ℕ)
 -- the same of the head that was to be read
 pub record LookFails {C : Type 0} (g : Ghosts C) (old new : EtcdLog C) (error : LogFault) : Type 0 where
   pub fault : CallFault
-  pub none : GetsNone g old.session new.session endpoints.Read (head_body old.name) (head_reading old.name) fault
+  pub none : GetsNone g old.session new.session endpoints.Read (head_body old.name) (log_head_reading old.name) fault
   pub kept : Keeps old new fault
   pub kind : error ≡ log_fault fault
 
 -- one of the calls of this log got no answer
 pub data Fails {C : Type 0} (g : Ghosts C) (old new : EtcdLog C) : Type 0 where
   append_fails : (n : ℕ) (line : List ℕ) (error : LogFault) → AppendFails g old new n line error → Fails g old new
-  read_fails : (n : ℕ) (error : LogFault) → ReadFails g old new n error → Fails g old new
+  read_fails : (n : ℕ) (error : LogFault) → PageFails g old new n error → Fails g old new
   look_fails : (error : LogFault) → LookFails g old new error → Fails g old new

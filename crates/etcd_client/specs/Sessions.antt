@@ -32,7 +32,7 @@ abbrev pub with_new : {C : Type 0} → Session C → Option (List ℕ) → Sessi
 with_new session token = record session { token = token }
 
 -- why a call has no value: the answer is read to have this fault, or memory ran out
-pub record HasFault {A : Type 0} (reading : Result A AnswerFault) (fault : CallFault) : Type 0 where
+pub record HasAnswerFault {A : Type 0} (reading : Result A AnswerFault) (fault : CallFault) : Type 0 where
   pub why : (fault ≡ faults.NoMemory) ⊎ ((bad : AnswerFault) × (reading ≡ Err bad) × (fault ≡ faults.Answer bad))
 
 -- a message was sent once, with the token if there is one, and this is the status and the body of its answer
@@ -60,7 +60,7 @@ pub record LogsIn {C : Type 0} (g : Ghosts C) (old new : Session C) (body : List
 -- why there is no token: the message of a login got no answer, or its answer has a fault
 pub data LoginFails {C : Type 0} (g : Ghosts C) (old new : Session C) (body : List ℕ) (fault : CallFault) : Type 0 where
   no_answer : TalkFails g old new endpoints.Login body fault → LoginFails g old new body fault
-  bad_answer : (status : ℕ) (answer : List ℕ) → Talks g old new endpoints.Login body status answer → HasFault (login_reading status answer) fault → LoginFails g old new body fault
+  bad_answer : (status : ℕ) (answer : List ℕ) → Talks g old new endpoints.Login body status answer → HasAnswerFault (login_reading status answer) fault → LoginFails g old new body fault
 
 -- there is a token; or there is no user; or the user was logged in
 pub data GetsToken {C : Type 0} (g : Ghosts C) (old new : Session C) : Type 0 where
@@ -74,7 +74,7 @@ pub data TokenFails {C : Type 0} (g : Ghosts C) (old new : Session C) (fault : C
   no_login : (body : List ℕ) → is_some old.token ≡ false → login_of old ≡ Some body → LoginFails g old new body fault → TokenFails g old new fault
 
 -- a message was sent once, as the user if there is one
-pub record Sends {C : Type 0} (g : Ghosts C) (old new : Session C) (endpoint : Endpoint) (body : List ℕ) (status : ℕ) (answer : List ℕ) : Type 0 where
+pub record SendsAsUser {C : Type 0} (g : Ghosts C) (old new : Session C) (endpoint : Endpoint) (body : List ℕ) (status : ℕ) (answer : List ℕ) : Type 0 where
   pub ready : Session C
   pub gets : GetsToken g old ready
   pub talks : Talks g ready new endpoint body status answer
@@ -89,14 +89,14 @@ pub record IsRefused {C : Type 0} (g : Ghosts C) (old new : Session C) (endpoint
   pub told : Session C
   pub status : ℕ
   pub answer : List ℕ
-  pub sends : Sends g old told endpoint body status answer
+  pub sends : SendsAsUser g old told endpoint body status answer
   pub refused : is_refused told status ≡ true
   pub forgotten : new ≡ with_new told None
 
 -- a message was sent, once more if the first answer refused the token, and this is the last answer
 pub data Asks {C : Type 0} (g : Ghosts C) (old new : Session C) (endpoint : Endpoint) (body : List ℕ) (status : ℕ) (answer : List ℕ) : Type 0 where
-  at_once : Sends g old new endpoint body status answer → is_refused new status ≡ false → Asks g old new endpoint body status answer
-  again : (middle : Session C) → IsRefused g old middle endpoint body → Sends g middle new endpoint body status answer → Asks g old new endpoint body status answer
+  at_once : SendsAsUser g old new endpoint body status answer → is_refused new status ≡ false → Asks g old new endpoint body status answer
+  again : (middle : Session C) → IsRefused g old middle endpoint body → SendsAsUser g middle new endpoint body status answer → Asks g old new endpoint body status answer
 
 -- why it got no last answer
 pub data AskFails {C : Type 0} (g : Ghosts C) (old new : Session C) (endpoint : Endpoint) (body : List ℕ) (fault : CallFault) : Type 0 where

@@ -2,10 +2,10 @@
 
 ghost use Rattle.std.specs.Prelude.{IfOk, IfErr};
 ghost use Rattle.etcd_messages.specs.declared.endpoint.Endpoint.TheVariants as endpoints;
-ghost use Rattle.etcd_messages.specs.Answers.{append_reading, page_reading, head_reading};
+ghost use Rattle.etcd_messages.specs.Answers.{append_reading, page_reading, log_head_reading};
 ghost use Rattle.etcd_client.specs.Logs.{append_body, page_body, head_body, Gets, GetsNone};
 
-use crate::fault::{CallFault, call_fault};
+use crate::fault::CallFault;
 use crate::session::Session;
 use etcd_messages::{
     Endpoint, append_request, head_request, page_request, read_append, read_head, read_page,
@@ -31,13 +31,8 @@ pub(crate) fn append<C: Connection>(
     ensures err { IfErr result (GetsNone C.Connection session.old session.new endpoints.Append (append_body name.now n line.now) (append_reading name.now n)) }
 {
     let request = append_request(alloc, name, n, line)?;
-    match session.ask(alloc, Endpoint::Append, request.as_str()) {
-        Ok(answer) => match read_append(alloc, name, n, answer.status, &answer.body) {
-            Ok(value) => Ok(value),
-            Err(unread) => Err(call_fault(unread)),
-        },
-        Err(fault) => Err(fault),
-    }
+    let answer = session.ask(alloc, Endpoint::Append, request.as_str())?;
+    Ok(read_append(alloc, name, n, answer.status, &answer.body)?)
 }
 
 /// Reads lines of the log with this name, from a number on.
@@ -52,13 +47,8 @@ pub(crate) fn page<C: Connection>(
     ensures err { IfErr result (GetsNone C.Connection session.old session.new endpoints.Read (page_body name.now n) (page_reading name.now n)) }
 {
     let request = page_request(alloc, name, n, MOST_LINES)?;
-    match session.ask(alloc, Endpoint::Read, request.as_str()) {
-        Ok(answer) => match read_page(alloc, name, n, answer.status, &answer.body) {
-            Ok(value) => Ok(value),
-            Err(unread) => Err(call_fault(unread)),
-        },
-        Err(fault) => Err(fault),
-    }
+    let answer = session.ask(alloc, Endpoint::Read, request.as_str())?;
+    Ok(read_page(alloc, name, n, answer.status, &answer.body)?)
 }
 
 /// Reads the head of the log with this name.
@@ -68,15 +58,10 @@ pub(crate) fn head<C: Connection>(
     session: &mut Session<C>,
     name: &Slug,
 ) -> Result<HeadAnswer, CallFault>
-    ensures ok { IfOk result (Gets C.Connection session.old session.new endpoints.Read (head_body name.now) (head_reading name.now)) }
-    ensures err { IfErr result (GetsNone C.Connection session.old session.new endpoints.Read (head_body name.now) (head_reading name.now)) }
+    ensures ok { IfOk result (Gets C.Connection session.old session.new endpoints.Read (head_body name.now) (log_head_reading name.now)) }
+    ensures err { IfErr result (GetsNone C.Connection session.old session.new endpoints.Read (head_body name.now) (log_head_reading name.now)) }
 {
     let request = head_request(alloc, name)?;
-    match session.ask(alloc, Endpoint::Read, request.as_str()) {
-        Ok(answer) => match read_head(alloc, name, answer.status, &answer.body) {
-            Ok(value) => Ok(value),
-            Err(unread) => Err(call_fault(unread)),
-        },
-        Err(fault) => Err(fault),
-    }
+    let answer = session.ask(alloc, Endpoint::Read, request.as_str())?;
+    Ok(read_head(alloc, name, answer.status, &answer.body)?)
 }

@@ -37,13 +37,11 @@ fn answer_fault(fault: AnswerFault) -> LogFault
 {
     match fault {
         AnswerFault::NoQuorum => LogFault::NoQuorum,
-        AnswerFault::BadToken => LogFault::Refused,
-        AnswerFault::Forbidden => LogFault::Refused,
-        AnswerFault::BadLogin => LogFault::Refused,
-        AnswerFault::BadStatus(_) => LogFault::BadAnswer,
-        AnswerFault::TooLong => LogFault::BadAnswer,
-        AnswerFault::BadJson => LogFault::BadAnswer,
-        AnswerFault::BadMember(_) => LogFault::BadAnswer,
+        AnswerFault::BadToken | AnswerFault::Forbidden | AnswerFault::BadLogin => LogFault::Refused,
+        AnswerFault::BadStatus(_)
+        | AnswerFault::TooLong
+        | AnswerFault::BadJson
+        | AnswerFault::BadMember(_) => LogFault::BadAnswer,
     }
 }
 
@@ -56,40 +54,42 @@ impl CallFault {
         ensures { result ≡ log_fault self }
     {
         match self {
-            CallFault::Open => LogFault::Unreachable,
-            CallFault::Write => LogFault::Unreachable,
-            CallFault::Read => LogFault::Unreachable,
-            CallFault::Ended => LogFault::Unreachable,
-            CallFault::BadMessage => LogFault::BadAnswer,
-            CallFault::TooLong => LogFault::BadAnswer,
+            CallFault::Open | CallFault::Write | CallFault::Read | CallFault::Ended => {
+                LogFault::Unreachable
+            }
+            CallFault::BadMessage | CallFault::TooLong => LogFault::BadAnswer,
             CallFault::Answer(fault) => answer_fault(fault),
             CallFault::NoMemory => LogFault::NoMemory,
         }
     }
 }
 
-// Returns why an answer was not read.
-pub(crate) fn call_fault(unread: Unread) -> CallFault
-    ensures { result ≡ call_fault unread }
-{
-    match unread {
-        Unread::Bad(fault) => CallFault::Answer(fault),
-        Unread::NoMemory => CallFault::NoMemory,
+/// Says why an answer was not read.
+impl From<Unread> for CallFault {
+    ghost from_gives = { λ unread fault. fault ≡ call_fault unread };
+
+    fn from(unread: Unread) -> CallFault {
+        match unread {
+            Unread::Bad(fault) => CallFault::Answer(fault),
+            Unread::NoMemory => CallFault::NoMemory,
+        }
     }
 }
 
-// Returns why a message got no answer.
-pub(crate) fn message_fault(fault: ExchangeFault) -> CallFault
-    ensures { result ≡ message_fault fault }
-{
-    match fault {
-        ExchangeFault::Open => CallFault::Open,
-        ExchangeFault::Write => CallFault::Write,
-        ExchangeFault::Read => CallFault::Read,
-        ExchangeFault::Ended => CallFault::Ended,
-        ExchangeFault::BadMessage => CallFault::BadMessage,
-        ExchangeFault::TooLong => CallFault::TooLong,
-        ExchangeFault::NoMemory => CallFault::NoMemory,
+/// Says why a message got no answer.
+impl From<ExchangeFault> for CallFault {
+    ghost from_gives = { λ cause fault. fault ≡ message_fault cause };
+
+    fn from(cause: ExchangeFault) -> CallFault {
+        match cause {
+            ExchangeFault::Open => CallFault::Open,
+            ExchangeFault::Write => CallFault::Write,
+            ExchangeFault::Read => CallFault::Read,
+            ExchangeFault::Ended => CallFault::Ended,
+            ExchangeFault::BadMessage => CallFault::BadMessage,
+            ExchangeFault::TooLong => CallFault::TooLong,
+            ExchangeFault::NoMemory => CallFault::NoMemory,
+        }
     }
 }
 

@@ -2,9 +2,9 @@
 //!
 //! [`EtcdLog`] sends the requests of `etcd_messages` over a
 //! [`Connection`](http_exchange::Connection), and reads their answers. Its contracts say which
-//! messages a call sends, in their order, and what it returns (`Appends`, `Reads`, `LooksAt`). Of
-//! the log a call changes the connection, whether it is kept, the token and, if the call fails, the
-//! fault.
+//! messages a call sends, in their order, and what it returns (`Appends`, `ReadsPage`, `LooksAt`).
+//! Of the log a call changes the connection, whether it is kept, the token and, if the call fails,
+//! the fault.
 //!
 //! A message is one exchange of `http_exchange` (`Talks`), on the connection that is kept, or on a
 //! new one. Its bytes are those of `request_text`: a post to the path of the endpoint, with the
@@ -17,14 +17,15 @@
 //! `IsRefused`). It is not sent again for any other reason, and never a third time.
 //!
 //! What a call returns is read in the last answer alone: it is what `append_reading`,
-//! `page_reading` or `head_reading` of `etcd_messages` gives for the status and the body of that
-//! answer (`Gets`).
+//! `page_reading` or `log_head_reading` of `etcd_messages` gives for the status and the body of
+//! that answer (`Gets`).
 //!
 //! A call that returns no value has a fault, which says why (`GetsNone`, `AskFails`):
 //!
 //! - `NoMemory` if memory ran out;
 //! - that of an exchange, for the message or a login (`TalkFails`, `message_fault`);
-//! - `Answer` with the first fault of the last answer, or of the answer to a login (`HasFault`).
+//! - `Answer` with the first fault of the last answer, or of the answer to a login
+//!   (`HasAnswerFault`).
 //!
 //! [`EtcdLog::fault`] returns the fault of the last call that failed. The error of that call is
 //! what this fault is for one who uses the log (`Fails`, `log_fault`):

@@ -21,7 +21,7 @@ pub struct EtcdLog<C: Connection> {
 impl<C: Connection> EtcdLog<C> {
     ghost use Rattle.std.specs.Prelude.{◌≡◌, Some};
     ghost use Rattle.etcd_client.specs.Faults.{log_fault};
-    ghost use Rattle.etcd_client.specs.Logs.{new_log, fault_of};
+    ghost use Rattle.etcd_client.specs.Logs.{new_log, last_fault};
 
     /// Returns the log with this name. Nothing is sent yet.
     pub fn new(connection: C, host: Host, name: Slug, user: Option<User>) -> EtcdLog<C>
@@ -42,7 +42,7 @@ impl<C: Connection> EtcdLog<C> {
 
     /// Returns why the last call without an answer got none.
     pub fn fault(&self) -> Option<CallFault>
-        ensures { result ≡ fault_of self.now }
+        ensures { result ≡ last_fault self.now }
     {
         self.fault
     }
@@ -59,11 +59,11 @@ impl<C: Connection> EtcdLog<C> {
 
 impl<C: Connection> Log for EtcdLog<C> {
     ghost use Rattle.std.specs.Prelude.{IfOk, IfErr, OnErr};
-    ghost use Rattle.etcd_client.specs.Logs.{Appends, Reads, LooksAt, AppendFails, ReadFails, LookFails, Fails};
+    ghost use Rattle.etcd_client.specs.Logs.{Appends, ReadsPage, LooksAt, AppendFails, PageFails, LookFails, Fails};
 
     ghost appends = { λ s t n line answer. Appends C.Connection s t n line answer };
 
-    ghost reads = { λ s t n answer. Reads C.Connection s t n answer };
+    ghost reads = { λ s t n answer. ReadsPage C.Connection s t n answer };
 
     ghost looks = { λ s t answer. LooksAt C.Connection s t answer };
 
@@ -83,9 +83,9 @@ impl<C: Connection> Log for EtcdLog<C> {
 
     #[tactic(auto, using(crate::proofs::LogLemmas::reads))]
     fn page(&mut self, alloc: Global, n: u32) -> Result<PageAnswer, LogFault>
-        ensures reads { IfOk result (Reads C.Connection self.old self.new n) }
+        ensures reads { IfOk result (ReadsPage C.Connection self.old self.new n) }
         ensures failed { OnErr result (Fails C.Connection self.old self.new) }
-        ensures why { IfErr result (ReadFails C.Connection self.old self.new n) }
+        ensures why { IfErr result (PageFails C.Connection self.old self.new n) }
     {
         match calls::page(alloc, &mut self.session, &self.name, n) {
             Ok(answer) => Ok(answer),

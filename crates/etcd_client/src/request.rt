@@ -1,16 +1,16 @@
 //! Writes a request in HTTP/1.1.
 
 ghost use Rattle.std.specs.Prelude.{◌≡◌, decimal, IfOk, OnOk, option_copied, string_bytes};
-ghost use Rattle.etcd_client.specs.Messages.{with_field, with_token, request_line, first_lines, request_head, request_text};
+ghost use Rattle.etcd_client.specs.Messages.{with_field_line, with_token, request_line, first_lines, request_head, request_text};
 
 use crate::host::Host;
 use etcd_messages::{Endpoint, Token};
 use std::alloc::Global;
 use usbnum_core::NoMemory;
 
-#[tactic(auto, unfolding(crate::specs::Messages::with_field))]
+#[tactic(auto, unfolding(crate::specs::Messages::with_field_line))]
 fn push_field(text: &mut String, name: &str, value: &str) -> Result<(), NoMemory>
-    ensures { OnOk result (string_bytes text.new ≡ with_field (string_bytes text.old) name.now value.now) }
+    ensures { OnOk result (string_bytes text.new ≡ with_field_line (string_bytes text.old) name.now value.now) }
 {
     text.push_str(name)?;
     text.push_str(": ")?;

@@ -1,9 +1,9 @@
 //! Sends messages to etcd over one connection, and logs a user in.
 
 ghost use Rattle.std.specs.Prelude.{◌≡◌, IfOk, IfErr, OnOk, option_copied, option_map, string_bytes};
-ghost use Rattle.etcd_client.specs.Sessions.{login_body, is_refused, Talks, TalkFails, LogsIn, LoginFails, GetsToken, TokenFails, Sends, SendFails, Asks, AskFails};
+ghost use Rattle.etcd_client.specs.Sessions.{login_body, is_refused, Talks, TalkFails, LogsIn, LoginFails, GetsToken, TokenFails, SendsAsUser, SendFails, Asks, AskFails};
 
-use crate::fault::{CallFault, call_fault, message_fault};
+use crate::fault::CallFault;
 use crate::host::Host;
 use crate::request::request_text;
 use crate::user::User;
@@ -59,13 +59,9 @@ impl<C: Connection> Session<C> {
         let text = request_text(alloc, endpoint, &self.host, self.token.as_ref(), body)?;
         let kept = self.is_kept;
         self.is_kept = false;
-        match exchange(alloc, &mut self.connection, kept, text.as_bytes()) {
-            Ok(answer) => {
-                self.is_kept = answer.keeps;
-                Ok(answer)
-            }
-            Err(fault) => Err(message_fault(fault)),
-        }
+        let answer = exchange(alloc, &mut self.connection, kept, text.as_bytes())?;
+        self.is_kept = answer.keeps;
+        Ok(answer)
     }
 
     // Logs the user in by this message, and keeps the token.
@@ -73,16 +69,10 @@ impl<C: Connection> Session<C> {
         ensures ok { OnOk result (LogsIn C.Connection self.old self.new body.now) }
         ensures err { IfErr result (LoginFails C.Connection self.old self.new body.now) }
     {
-        match self.talk(alloc, Endpoint::Login, body) {
-            Ok(answer) => match read_login(alloc, answer.status, &answer.body) {
-                Ok(token) => {
-                    self.token = Some(token);
-                    Ok(())
-                }
-                Err(unread) => Err(call_fault(unread)),
-            },
-            Err(fault) => Err(fault),
-        }
+        let answer = self.talk(alloc, Endpoint::Login, body)?;
+        let token = read_login(alloc, answer.status, &answer.body)?;
+        self.token = Some(token);
+        Ok(())
     }
 
     // Logs the user in, if there is one and no token.
@@ -102,13 +92,11 @@ impl<C: Connection> Session<C> {
 
     // Sends a message as the user, if there is one, and returns its answer.
     fn send(&mut self, alloc: Global, endpoint: Endpoint, body: &str) -> Result<Answer, CallFault>
-        ensures ok { IfOk result (λ answer. Sends C.Connection self.old self.new endpoint body.now answer.status answer.body.items) }
+        ensures ok { IfOk result (λ answer. SendsAsUser C.Connection self.old self.new endpoint body.now answer.status answer.body.items) }
         ensures err { IfErr result (SendFails C.Connection self.old self.new endpoint body.now) }
     {
-        match self.get_token(alloc) {
-            Ok(()) => self.talk(alloc, endpoint, body),
-            Err(fault) => Err(fault),
-        }
+        self.get_token(alloc)?;
+        self.talk(alloc, endpoint, body)
     }
 
     // Returns whether an answer with this status refuses the token of the user.
@@ -129,10 +117,7 @@ impl<C: Connection> Session<C> {
         ensures ok { IfOk result (λ answer. Asks C.Connection self.old self.new endpoint body.now answer.status answer.body.items) }
         ensures err { IfErr result (AskFails C.Connection self.old self.new endpoint body.now) }
     {
-        let answer = match self.send(alloc, endpoint, body) {
-            Ok(answer) => answer,
-            Err(fault) => return Err(fault),
-        };
+        let answer = self.send(alloc, endpoint, body)?;
         if !self.is_refused(answer.status) {
             return Ok(answer);
         }

@@ -12,8 +12,8 @@ use Rattle.serde_json.specs.Data.{boolean, member, no_members}
 use Rattle.shared_log.specs.declared.answers.AppendAnswer.TheVariants.{Appended}
 use Rattle.etcd_messages.specs.declared.fault.AnswerFault.{AnswerFault}
 use Rattle.etcd_messages.specs.Keys.{in_base64, from_base64, key_text}
-use Rattle.etcd_messages.specs.Answers.{line_in, line_of, lines_from, append_in, refused_in, refused_by, response_in, flag_in, page_in, page_of, most_lines}
-use Rattle.etcd_messages.specs.Faults.{◌>>=◌}
+use Rattle.etcd_messages.specs.Answers.{keyed_line, numbered_line, lines_from, append_in, refused_in, refused_by, response_in, flag_in, page_in, page_of, line_number_bound}
+use Rattle.etcd_messages.specs.Faults.{◌|>◌}
 use Rattle.etcd_messages.specs.Stated.{Revisions, Surroundings, AreBytes, pair_of, pairs_from, append_says, append_means, page_says, refused_append, looked_up, transaction_says}
 
 -- what is written in base64 reads back
@@ -25,16 +25,16 @@ same_text : (text : List ℕ) → bytes_eq text text ≡ true
 same_text text = (bytes_eq-Decides text text).1 refl
 
 -- the pair of a line is read as this line
-pub line_in_pair : (r : Revisions) (name : List ℕ) (n : ℕ) (line : List ℕ) → IsBytes line → line_in (key_text name n) (pair_of r name n line) ≡ Ok line
-unfolding line_in
+pub line_in_pair : (r : Revisions) (name : List ℕ) (n : ℕ) (line : List ℕ) → IsBytes line → keyed_line (key_text name n) (pair_of r name n line) ≡ Ok line
+unfolding keyed_line
 line_in_pair r name n [] bytes = rw (same_text (key_text name n)) refl
 line_in_pair r name n (b ∷ line) bytes = rw (same_text (key_text name n), reads_back (b ∷ line) bytes) refl
 
-line_of_pair : (r : Revisions) (name : List ℕ) (n : ℕ) (line : List ℕ) → IsBytes line → n < most_lines → line_of name n (pair_of r name n line) ≡ Ok line
-line_of_pair r name n line bytes few = rw (lt-ltb n most_lines few) (line_in_pair r name n line bytes)
+line_of_pair : (r : Revisions) (name : List ℕ) (n : ℕ) (line : List ℕ) → IsBytes line → n < line_number_bound → numbered_line name n (pair_of r name n line) ≡ Ok line
+line_of_pair r name n line bytes few = rw (lt-ltb n line_number_bound few) (line_in_pair r name n line bytes)
 
 -- the pairs of lines are read as these lines
-pub lines_from_pairs : (r : ℕ → Revisions) (name : List ℕ) (n : ℕ) (lines : List (List ℕ)) → AreBytes lines → n + length lines ≤ most_lines → lines_from name n (pairs_from r name n lines) ≡ Ok lines
+pub lines_from_pairs : (r : ℕ → Revisions) (name : List ℕ) (n : ℕ) (lines : List (List ℕ)) → AreBytes lines → n + length lines ≤ line_number_bound → lines_from name n (pairs_from r name n lines) ≡ Ok lines
 unfolding lines_from
 lines_from_pairs r name n [] bytes fits = refl
 lines_from_pairs r name n (line ∷ lines) bytes fits =
@@ -44,7 +44,7 @@ lines_from_pairs r name n (line ∷ lines) bytes fits =
     ) refl
 
 -- the answer with lines is read as these
-pub page_in_said : (s : Surroundings) (name : List ℕ) (n : ℕ) (lines : List (List ℕ)) (more : Bool) → AreBytes lines → n + length lines ≤ most_lines → (lines ≡ [] → more ≡ false)
+pub page_in_said : (s : Surroundings) (name : List ℕ) (n : ℕ) (lines : List (List ℕ)) (more : Bool) → AreBytes lines → n + length lines ≤ line_number_bound → (lines ≡ [] → more ≡ false)
     → page_in name n (page_says s name n lines more) ≡ Ok (record { lines = lines; more = more })
 unfolding page_in flag_in lines_from page_of
 page_in_said s name n [] true bytes fits none = cc (none refl)

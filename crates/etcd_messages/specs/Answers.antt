@@ -18,25 +18,25 @@ use Rattle.etcd_messages.specs.declared.fault.Member.{Member}
 use Rattle.etcd_messages.specs.declared.fault.Member.TheVariants as members
 use Rattle.etcd_messages.specs.Keys.{key_text, from_base64}
 use Rattle.etcd_messages.specs.Visible.{is_visible}
-use Rattle.etcd_messages.specs.Faults.{member_name, status_fault, login_fault, present, ◌>>=◌}
+use Rattle.etcd_messages.specs.Faults.{member_name, status_fault, login_fault, value_or_fault, ◌|>◌}
 
 -- the most bytes of an answer that is read: 32 MiB
 abbrev pub most_answer : ℕ
 most_answer = 33_554_432
 
 -- the number of a line is below this: 2^32
-abbrev pub most_lines : ℕ
-most_lines = 4_294_967_296
+abbrev pub line_number_bound : ℕ
+line_number_bound = 4_294_967_296
 
 -- ---- objects and their members
 
-abbrev pub object_or_bad : Option Data → Result Data AnswerFault
-object_or_bad None = Err BadJson
-object_or_bad (Some tree) = if is_some (as_object tree) then Ok tree else Err BadJson
+abbrev pub object_or_bad_json : Option Data → Result Data AnswerFault
+object_or_bad_json None = Err BadJson
+object_or_bad_json (Some tree) = if is_some (as_object tree) then Ok tree else Err BadJson
 
 -- the bytes as a JSON object
-unfoldable pub object_of : List ℕ → Result Data AnswerFault
-object_of bytes = object_or_bad (if is_utf8 bytes then read bytes else None)
+unfoldable pub answer_object : List ℕ → Result Data AnswerFault
+answer_object bytes = object_or_bad_json (if is_utf8 bytes then read bytes else None)
 
 -- an object as it is
 abbrev pub as_tree : Data → Option Data
@@ -52,16 +52,16 @@ if_headed tree = if is_some (tree_in (member_name members.Header) tree) then Ok 
 
 -- the answer in these bytes
 unfoldable pub answer_in : List ℕ → Result Data AnswerFault
-answer_in bytes = if nat_le (length bytes) most_answer then (object_of bytes >>= if_headed) else Err TooLong
+answer_in bytes = if nat_le (length bytes) most_answer then (answer_object bytes |> if_headed) else Err TooLong
 
 -- the text at a member
-abbrev pub text_in : Member → Data → Option (List ℕ)
-text_in name tree = option_and_then as_str (get (member_name name) tree)
+abbrev pub member_text : Member → Data → Option (List ℕ)
+member_text name tree = option_and_then as_str (get (member_name name) tree)
 
 -- the truth of a member, which is left out if it is false
 abbrev pub flag_of : Member → Option Data → Result Bool AnswerFault
 flag_of name None = Ok false
-flag_of name (Some found) = present (BadMember name) (as_bool found)
+flag_of name (Some found) = value_or_fault (BadMember name) (as_bool found)
 
 unfoldable pub flag_in : Member → Data → Result Bool AnswerFault
 flag_in name tree = flag_of name (get (member_name name) tree)
@@ -71,7 +71,7 @@ flag_in name tree = flag_of name (get (member_name name) tree)
 -- the pairs of an answer, which are left out if there is none
 abbrev pub pairs_of : Option Data → Result Items AnswerFault
 pairs_of None = Ok no_items
-pairs_of (Some found) = present (BadMember members.Kvs) (as_array found)
+pairs_of (Some found) = value_or_fault (BadMember members.Kvs) (as_array found)
 
 abbrev pub pairs_in : Data → Result Items AnswerFault
 pairs_in tree = pairs_of (get (member_name members.Kvs) tree)
@@ -87,10 +87,10 @@ is_text text None = false
 is_text text (Some found) = bytes_eq found text
 
 -- the line of a pair, whose key has to be this one
-unfoldable pub line_in : List ℕ → Data → Result (List ℕ) AnswerFault
-line_in key pair =
-    if is_text key (text_in members.Key pair)
-    then present (BadMember members.Value) (value_of (get (member_name members.Value) pair))
+unfoldable pub keyed_line : List ℕ → Data → Result (List ℕ) AnswerFault
+keyed_line key pair =
+    if is_text key (member_text members.Key pair)
+    then value_or_fault (BadMember members.Value) (value_of (get (member_name members.Value) pair))
     else Err (BadMember members.Key)
 
 -- ---- the answer to an append
@@ -98,34 +98,34 @@ line_in key pair =
 -- the response of this kind to the only step of a transaction
 unfoldable pub response_in : List ℕ → Data → Result Data AnswerFault
 response_in kind tree =
-    present (BadMember members.Responses)
+    value_or_fault (BadMember members.Responses)
     (option_and_then (tree_in kind) (option_and_then (at 0) (get (member_name members.Responses) tree)))
 
 -- what the look-up of a line found whose append was refused: that line, or none
 unfoldable pub refused_by : List ℕ → Items → Result AppendAnswer AnswerFault
 refused_by key no_items = Ok Behind
-refused_by key (item pair no_items) = line_in key pair >>= λ line. Ok (Taken line)
+refused_by key (item pair no_items) = keyed_line key pair |> λ line. Ok (Taken line)
 refused_by key (item pair (item other pairs)) = Err (BadMember members.Kvs)
 
 unfoldable pub refused_in : List ℕ → Data → Result AppendAnswer AnswerFault
-refused_in key tree = response_in (codes "response_range") tree >>= λ found. pairs_in found >>= refused_by key
+refused_in key tree = response_in (codes "response_range") tree |> λ found. pairs_in found |> refused_by key
 
 -- what the answer to an append under this key says
 unfoldable pub append_in : List ℕ → Data → Result AppendAnswer AnswerFault
 append_in key tree =
-    flag_in members.Succeeded tree >>= λ done.
-    if done then (response_in (codes "response_put") tree >>= λ put. Ok Appended) else refused_in key tree
+    flag_in members.Succeeded tree |> λ done.
+    if done then (response_in (codes "response_put") tree |> λ put. Ok Appended) else refused_in key tree
 
 -- ---- the answer to a read of lines
 
 -- the line of a pair, which has to be line n
-abbrev pub line_of : List ℕ → ℕ → Data → Result (List ℕ) AnswerFault
-line_of name n pair = if nat_lt n most_lines then line_in (key_text name n) pair else Err (BadMember members.Key)
+abbrev pub numbered_line : List ℕ → ℕ → Data → Result (List ℕ) AnswerFault
+numbered_line name n pair = if nat_lt n line_number_bound then keyed_line (key_text name n) pair else Err (BadMember members.Key)
 
 -- the lines of these pairs, which have to be n and the numbers after it
 unfoldable pub lines_from : List ℕ → ℕ → Items → Result (List (List ℕ)) AnswerFault
 lines_from name n no_items = Ok []
-lines_from name n (item pair pairs) = line_of name n pair >>= λ line. lines_from name (n + 1) pairs >>= λ lines. Ok (line ∷ lines)
+lines_from name n (item pair pairs) = numbered_line name n pair |> λ line. lines_from name (n + 1) pairs |> λ lines. Ok (line ∷ lines)
 
 -- lines and whether there are more, which needs a line
 unfoldable pub page_of : List (List ℕ) → Bool → Result PageAnswer AnswerFault
@@ -135,46 +135,46 @@ page_of lines more =
 -- what the answer to a read of lines from n on says
 unfoldable pub page_in : List ℕ → ℕ → Data → Result PageAnswer AnswerFault
 page_in name n tree =
-    pairs_in tree >>= λ pairs. lines_from name n pairs >>= λ lines. flag_in members.More tree >>= λ more. page_of lines more
+    pairs_in tree |> λ pairs. lines_from name n pairs |> λ lines. flag_in members.More tree |> λ more. page_of lines more
 
 -- ---- the answer to a read of the head
 
-abbrev pub is_digit : ℕ → Bool
-is_digit b = nat_le 48 b && nat_le b 57
+abbrev pub is_decimal_digit : ℕ → Bool
+is_decimal_digit b = nat_le 48 b && nat_le b 57
 
 -- the value of n's digits followed by these decimal digits
-abbrev pub decimal_from : ℕ → List ℕ → ℕ
-decimal_from n [] = n
-decimal_from n (b ∷ bytes) = decimal_from (n * 10 + (b - 48)) bytes
+abbrev pub digits_value_from : ℕ → List ℕ → ℕ
+digits_value_from n [] = n
+digits_value_from n (b ∷ bytes) = digits_value_from (n * 10 + (b - 48)) bytes
 
 -- the value of 1 to 10 decimal digits
 unfoldable pub digits_value : List ℕ → Option ℕ
 digits_value text =
-    if nat_le 1 (length text) && nat_le (length text) 10 && list_all is_digit text then Some (decimal_from 0 text) else None
+    if nat_le 1 (length text) && nat_le (length text) 10 && list_all is_decimal_digit text then Some (digits_value_from 0 text) else None
 
 -- a number of lines
 abbrev pub if_few : ℕ → Option ℕ
-if_few n = if nat_lt n most_lines then Some n else None
+if_few n = if nat_lt n line_number_bound then Some n else None
 
 -- the number of lines, which is left out if it is 0
-abbrev pub count_of : Option Data → Option ℕ
-count_of None = Some 0
-count_of (Some found) = option_and_then if_few (option_and_then digits_value (as_str found))
+abbrev pub line_count_of : Option Data → Option ℕ
+line_count_of None = Some 0
+line_count_of (Some found) = option_and_then if_few (option_and_then digits_value (as_str found))
 
 -- the head of a log of so many lines, whose last one is in these pairs
-unfoldable pub last_of : List ℕ → ℕ → Items → Result HeadAnswer AnswerFault
-last_of name count no_items =
+unfoldable pub log_head_of : List ℕ → ℕ → Items → Result HeadAnswer AnswerFault
+log_head_of name count no_items =
     if count == 0 then Ok (record { count = 0; last = None }) else Err (BadMember members.Kvs)
-last_of name count (item pair no_items) =
+log_head_of name count (item pair no_items) =
     if count == 0 then Err (BadMember members.Count)
-    else (line_in (key_text name (count - 1)) pair >>= λ line. Ok (record { count = count; last = Some line }))
-last_of name count (item pair (item other pairs)) = Err (BadMember members.Kvs)
+    else (keyed_line (key_text name (count - 1)) pair |> λ line. Ok (record { count = count; last = Some line }))
+log_head_of name count (item pair (item other pairs)) = Err (BadMember members.Kvs)
 
 -- what the answer to a read of the head says
-unfoldable pub head_in : List ℕ → Data → Result HeadAnswer AnswerFault
-head_in name tree =
-    present (BadMember members.Count) (count_of (get (member_name members.Count) tree)) >>= λ count.
-    pairs_in tree >>= λ pairs. last_of name count pairs
+unfoldable pub log_head_in : List ℕ → Data → Result HeadAnswer AnswerFault
+log_head_in name tree =
+    value_or_fault (BadMember members.Count) (line_count_of (get (member_name members.Count) tree)) |> λ count.
+    pairs_in tree |> λ pairs. log_head_of name count pairs
 
 -- ---- the answer to a login
 
@@ -184,7 +184,7 @@ if_token text = if nat_le 1 (length text) && list_all is_visible text then Some 
 
 -- what the answer to a login says
 unfoldable pub token_in : Data → Result (List ℕ) AnswerFault
-token_in tree = present (BadMember members.Token) (option_and_then if_token (text_in members.Token tree))
+token_in tree = value_or_fault (BadMember members.Token) (option_and_then if_token (member_text members.Token tree))
 
 -- ---- answers with a status
 
@@ -193,18 +193,18 @@ unfoldable pub answer_with : AnswerFault → ℕ → List ℕ → Result Data An
 answer_with fault status body = if status == 200 then answer_in body else Err fault
 
 unfoldable pub append_reading : List ℕ → ℕ → ℕ → List ℕ → Result AppendAnswer AnswerFault
-append_reading name n status body = answer_with (status_fault status) status body >>= append_in (key_text name n)
+append_reading name n status body = answer_with (status_fault status) status body |> append_in (key_text name n)
 
 unfoldable pub page_reading : List ℕ → ℕ → ℕ → List ℕ → Result PageAnswer AnswerFault
-page_reading name n status body = answer_with (status_fault status) status body >>= page_in name n
+page_reading name n status body = answer_with (status_fault status) status body |> page_in name n
 
-unfoldable pub head_reading : List ℕ → ℕ → List ℕ → Result HeadAnswer AnswerFault
-head_reading name status body = answer_with (status_fault status) status body >>= head_in name
+unfoldable pub log_head_reading : List ℕ → ℕ → List ℕ → Result HeadAnswer AnswerFault
+log_head_reading name status body = answer_with (status_fault status) status body |> log_head_in name
 
 unfoldable pub login_reading : ℕ → List ℕ → Result (List ℕ) AnswerFault
-login_reading status body = answer_with (login_fault status) status body >>= token_in
+login_reading status body = answer_with (login_fault status) status body |> token_in
 
 -- what etcd says of an error, if it says it in JSON
-abbrev pub reason_of : Result Data AnswerFault → Option (List ℕ)
-reason_of (Ok tree) = text_in members.Error tree
-reason_of (Err fault) = None
+abbrev pub error_reason : Result Data AnswerFault → Option (List ℕ)
+error_reason (Ok tree) = member_text members.Error tree
+error_reason (Err fault) = None

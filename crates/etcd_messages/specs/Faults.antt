@@ -33,24 +33,24 @@ abbrev pub login_fault : ℕ → AnswerFault
 login_fault status = if status == 400 then BadLogin else status_fault status
 
 -- the value, or the fault if there is no value
-abbrev pub present : {A : Type 0} → AnswerFault → Option A → Result A AnswerFault
-present fault None = Err fault
-present fault (Some x) = Ok x
+abbrev pub value_or_fault : {A : Type 0} → AnswerFault → Option A → Result A AnswerFault
+value_or_fault fault None = Err fault
+value_or_fault fault (Some x) = Ok x
 
 -- the result is the expected value or fault, unless memory runs out
-abbrev pub Gives : {A : Type 0} → Result A Unread → Result A AnswerFault → Type 0
-Gives (Ok x) expected = expected ≡ Ok x
-Gives (Err (Bad fault)) expected = expected ≡ Err fault
-Gives (Err NoMemory) expected = ⊤
+abbrev pub GivesReading : {A : Type 0} → Result A Unread → Result A AnswerFault → Type 0
+GivesReading (Ok x) expected = expected ≡ Ok x
+GivesReading (Err (Bad fault)) expected = expected ≡ Err fault
+GivesReading (Err NoMemory) expected = ⊤
 
 -- what the result shows, by `seen`, is the expected value or fault, unless memory runs out
-abbrev pub GivesSeen : {A B : Type 0} → (A → B) → Result A Unread → Result B AnswerFault → Type 0
-GivesSeen seen (Ok x) expected = expected ≡ Ok (seen x)
-GivesSeen seen (Err (Bad fault)) expected = expected ≡ Err fault
-GivesSeen seen (Err NoMemory) expected = ⊤
+abbrev pub ShowsReading : {A B : Type 0} → (A → B) → Result A Unread → Result B AnswerFault → Type 0
+ShowsReading seen (Ok x) expected = expected ≡ Ok (seen x)
+ShowsReading seen (Err (Bad fault)) expected = expected ≡ Err fault
+ShowsReading seen (Err NoMemory) expected = ⊤
 
 -- the second step on the value of the first, or the fault of the first
-infixl 10 ◌>>=◌
-abbrev pub ◌>>=◌ : {E A B : Type 0} → Result A E → (A → Result B E) → Result B E
-(Ok x) >>= f = f x
-(Err e) >>= f = Err e
+infixl 10 ◌|>◌
+abbrev pub ◌|>◌ : {E A B : Type 0} → Result A E → (A → Result B E) → Result B E
+(Ok x) |> f = f x
+(Err e) |> f = Err e

@@ -4,18 +4,18 @@ use Rattle.base64.specs.Engines.{standard}
 use Rattle.base64.specs.GeneralPurpose.{encode_of, decoded_of}
 
 -- the digit of a number at this power of ten
-abbrev pub digit_at : ℕ → ℕ → ℕ
-digit_at power n = 48 + n / power % 10
+abbrev pub digit_at_power : ℕ → ℕ → ℕ
+digit_at_power power n = 48 + n / power % 10
 
 -- the last ten decimal digits of a number
 unfoldable pub ten_digits : ℕ → List ℕ
 ten_digits n =
-    digit_at 1000000000 n ∷ digit_at 100000000 n ∷ digit_at 10000000 n ∷ digit_at 1000000 n ∷ digit_at 100000 n
-    ∷ digit_at 10000 n ∷ digit_at 1000 n ∷ digit_at 100 n ∷ digit_at 10 n ∷ digit_at 1 n ∷ []
+    digit_at_power 1000000000 n ∷ digit_at_power 100000000 n ∷ digit_at_power 10000000 n ∷ digit_at_power 1000000 n ∷ digit_at_power 100000 n
+    ∷ digit_at_power 10000 n ∷ digit_at_power 1000 n ∷ digit_at_power 100 n ∷ digit_at_power 10 n ∷ digit_at_power 1 n ∷ []
 
 -- the key of a line: the name of its log, a slash, and its number in ten digits
-unfoldable pub key_of : List ℕ → ℕ → List ℕ
-key_of name n = name ++ 47 ∷ ten_digits n
+unfoldable pub line_key : List ℕ → ℕ → List ℕ
+line_key name n = name ++ 47 ∷ ten_digits n
 
 -- the first key behind those of all lines: a colon comes after the digits
 unfoldable pub end_of : List ℕ → List ℕ
@@ -31,7 +31,7 @@ from_base64 text = decoded_of standard text
 
 -- the key of a line as base64
 abbrev pub key_text : List ℕ → ℕ → List ℕ
-key_text name n = in_base64 (key_of name n)
+key_text name n = in_base64 (line_key name n)
 
 abbrev pub end_text : List ℕ → List ℕ
 end_text name = in_base64 (end_of name)

@@ -6,10 +6,10 @@ use Rattle.etcd_messages.specs.declared.endpoint.Endpoint.TheVariants as endpoin
 use Rattle.etcd_messages.specs.Keys.{key_text, end_text, in_base64}
 
 -- the path to which a request is sent
-abbrev pub path_of : Endpoint → List ℕ
-path_of endpoints.Append = codes "/v3/kv/txn"
-path_of endpoints.Read = codes "/v3/kv/range"
-path_of endpoints.Login = codes "/v3/auth/authenticate"
+abbrev pub endpoint_path : Endpoint → List ℕ
+endpoint_path endpoints.Append = codes "/v3/kv/txn"
+endpoint_path endpoints.Read = codes "/v3/kv/range"
+endpoint_path endpoints.Login = codes "/v3/auth/authenticate"
 
 -- the condition that a key has a value, `GREATER`, or has none, `EQUAL`: a key without a value was created at revision 0
 abbrev pub created : List ℕ → List ℕ → Data

@@ -6,7 +6,7 @@ use Rattle.base64.specs.GeneralPurpose.{IsBytes}
 use Rattle.serde_json.specs.Data.{Data, string, boolean, array, object, Items, item, no_items, Members, member, no_members}
 use Rattle.shared_log.specs.declared.answers.AppendAnswer.{AppendAnswer}
 use Rattle.shared_log.specs.declared.answers.AppendAnswer.TheVariants.{Appended, Taken, Behind}
-use Rattle.etcd_messages.specs.Answers.{append_in, page_in, most_lines}
+use Rattle.etcd_messages.specs.Answers.{append_in, page_in, line_number_bound}
 use Rattle.etcd_messages.specs.Keys.{key_text, in_base64}
 
 -- what an answer says of a pair besides its key and its value
@@ -90,5 +90,5 @@ ReadsAppends =
 -- The answer with lines is read as these lines, and whether there are more.
 abbrev pub ReadsPages : Type 0
 ReadsPages =
-    (s : Surroundings) (name : List ℕ) (n : ℕ) (lines : List (List ℕ)) (more : Bool) → AreBytes lines → n + length lines ≤ most_lines → (lines ≡ [] → more ≡ false)
+    (s : Surroundings) (name : List ℕ) (n : ℕ) (lines : List (List ℕ)) (more : Bool) → AreBytes lines → n + length lines ≤ line_number_bound → (lines ≡ [] → more ≡ false)
     → page_in name n (page_says s name n lines more) ≡ Ok (record { lines = lines; more = more })

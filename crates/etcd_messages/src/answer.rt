@@ -2,9 +2,9 @@
 
 ghost use Rattle.std.specs.Prelude.{◌≡◌, is_some, option_map, option_copied};
 ghost use Rattle.serde_json.specs.View.{view};
-ghost use Rattle.etcd_messages.specs.Faults.{Gives, GivesSeen, member_name};
+ghost use Rattle.etcd_messages.specs.Faults.{GivesReading, ShowsReading, member_name};
 ghost use Rattle.etcd_messages.specs.declared.fault.Member.TheVariants as members;
-ghost use Rattle.etcd_messages.specs.Answers.{object_of, if_headed, answer_in, answer_with, tree_in, text_in, flag_in};
+ghost use Rattle.etcd_messages.specs.Answers.{answer_object, if_headed, answer_in, answer_with, tree_in, member_text, flag_in};
 
 use crate::fault::{AnswerFault, Member, Unread};
 use serde_json::Value;
@@ -14,9 +14,9 @@ use std::alloc::Global;
 const MOST_ANSWER: usize = 33_554_432;
 
 // Reads the bytes as a JSON object.
-#[tactic(auto, unfolding(crate::specs::Answers::object_of))]
+#[tactic(auto, unfolding(crate::specs::Answers::answer_object))]
 pub(crate) fn object_of(alloc: Global, bytes: &[u8]) -> Result<Value, Unread>
-    ensures { GivesSeen view result (object_of bytes.now) }
+    ensures { ShowsReading view result (answer_object bytes.now) }
 {
     match Value::from_slice(alloc, bytes) {
         Ok(value) => {
@@ -56,7 +56,7 @@ fn has_header(value: &Value) -> bool
 }
 
 fn if_headed(value: Value) -> Result<Value, Unread>
-    ensures { GivesSeen view result (if_headed (view value)) }
+    ensures { ShowsReading view result (if_headed (view value)) }
 {
     if has_header(&value) {
         Ok(value)
@@ -67,7 +67,7 @@ fn if_headed(value: Value) -> Result<Value, Unread>
 
 #[tactic(auto, unfolding(crate::specs::Answers::answer_in))]
 fn answer_in(alloc: Global, bytes: &[u8]) -> Result<Value, Unread>
-    ensures { GivesSeen view result (answer_in bytes.now) }
+    ensures { ShowsReading view result (answer_in bytes.now) }
 {
     if bytes.len() > MOST_ANSWER {
         return Err(Unread::Bad(AnswerFault::TooLong));
@@ -84,7 +84,7 @@ pub(crate) fn answer_with(
     status: u16,
     body: &[u8],
 ) -> Result<Value, Unread>
-    ensures { GivesSeen view result (answer_with fault status body.now) }
+    ensures { ShowsReading view result (answer_with fault status body.now) }
 {
     if status == 200 {
         answer_in(alloc, body)
@@ -95,7 +95,7 @@ pub(crate) fn answer_with(
 
 // Returns the text at a member.
 pub(crate) fn text_in(name: Member, value: &Value) -> Option<&str>
-    ensures { option_copied result ≡ text_in name (view value.now) }
+    ensures { option_copied result ≡ member_text name (view value.now) }
 {
     match value.get(name.name()) {
         Some(found) => found.as_str(),
@@ -106,7 +106,7 @@ pub(crate) fn text_in(name: Member, value: &Value) -> Option<&str>
 // Returns the truth of a member, which is left out if it is false.
 #[tactic(auto, unfolding(crate::specs::Answers::flag_in))]
 pub(crate) fn flag_in(name: Member, value: &Value) -> Result<bool, Unread>
-    ensures { Gives result (flag_in name (view value.now)) }
+    ensures { GivesReading result (flag_in name (view value.now)) }
 {
     match value.get(name.name()) {
         None => Ok(false),

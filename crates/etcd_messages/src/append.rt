@@ -3,7 +3,7 @@
 ghost use Rattle.std.specs.Prelude.{◌≡◌, codes, option_map, option_and_then};
 ghost use Rattle.serde_json.specs.Find.{get, at};
 ghost use Rattle.serde_json.specs.View.{view, items_view};
-ghost use Rattle.etcd_messages.specs.Faults.{Gives, GivesSeen, member_name, status_fault};
+ghost use Rattle.etcd_messages.specs.Faults.{GivesReading, ShowsReading, member_name, status_fault};
 ghost use Rattle.etcd_messages.specs.Answers.{response_in, refused_by, refused_in, append_in, append_reading};
 ghost use Rattle.etcd_messages.specs.declared.fault.Member.TheVariants as members;
 
@@ -29,7 +29,7 @@ fn first_response(value: &Value) -> Option<&Value>
 // Returns the response of this kind to the only step of a transaction.
 #[tactic(auto, unfolding(crate::specs::Answers::response_in))]
 fn response_in<'v>(kind: &str, value: &'v Value) -> Result<&'v Value, Unread>
-    ensures { GivesSeen (λ found. view found.now) result (response_in kind.now (view value.now)) }
+    ensures { ShowsReading (λ found. view found.now) result (response_in kind.now (view value.now)) }
 {
     match first_response(value) {
         Some(first) => match tree_in(kind, first) {
@@ -43,7 +43,7 @@ fn response_in<'v>(kind: &str, value: &'v Value) -> Result<&'v Value, Unread>
 // Returns what the look-up of a line found whose append was refused.
 #[tactic(auto, unfolding(crate::specs::Answers::refused_by))]
 fn refused_by(alloc: Global, key: &str, pairs: &[Value]) -> Result<AppendAnswer, Unread>
-    ensures { Gives result (refused_by key.now (items_view pairs.now)) }
+    ensures { GivesReading result (refused_by key.now (items_view pairs.now)) }
 {
     match pairs {
         [] => Ok(AppendAnswer::Behind),
@@ -54,7 +54,7 @@ fn refused_by(alloc: Global, key: &str, pairs: &[Value]) -> Result<AppendAnswer,
 
 #[tactic(auto, unfolding(crate::specs::Answers::refused_in))]
 fn refused_in(alloc: Global, key: &str, value: &Value) -> Result<AppendAnswer, Unread>
-    ensures { Gives result (refused_in key.now (view value.now)) }
+    ensures { GivesReading result (refused_in key.now (view value.now)) }
 {
     let found = response_in("response_range", value)?;
     let pairs = pairs_in(found)?;
@@ -63,7 +63,7 @@ fn refused_in(alloc: Global, key: &str, value: &Value) -> Result<AppendAnswer, U
 
 #[tactic(auto, unfolding(crate::specs::Answers::append_in))]
 fn append_in(alloc: Global, key: &str, value: &Value) -> Result<AppendAnswer, Unread>
-    ensures { Gives result (append_in key.now (view value.now)) }
+    ensures { GivesReading result (append_in key.now (view value.now)) }
 {
     if flag_in(Member::Succeeded, value)? {
         let _put = response_in("response_put", value)?;
@@ -83,7 +83,7 @@ pub fn read_append(
     status: u16,
     body: &[u8],
 ) -> Result<AppendAnswer, Unread>
-    ensures { Gives result (append_reading name.now n status body.now) }
+    ensures { GivesReading result (append_reading name.now n status body.now) }
 {
     let value = answer_with(alloc, status_fault(status), status, body)?;
     let key = key_text(alloc, name, u64::from(n))?;

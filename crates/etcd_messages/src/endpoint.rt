@@ -13,11 +13,11 @@ pub enum Endpoint {
 
 impl Endpoint {
     ghost use Rattle.std.specs.Prelude.{◌≡◌};
-    ghost use Rattle.etcd_messages.specs.Requests.{path_of};
+    ghost use Rattle.etcd_messages.specs.Requests.{endpoint_path};
 
     /// Returns the path to which its requests are posted.
     pub fn path(self) -> &'static str
-        ensures { result.now ≡ path_of self }
+        ensures { result.now ≡ endpoint_path self }
     {
         match self {
             Endpoint::Append => "/v3/kv/txn",

@@ -4,8 +4,8 @@ ghost use Rattle.std.specs.Prelude.{◌≡◌, ◌≤◌, true, length};
 ghost use Rattle.std.specs.List.{list_all};
 ghost use Rattle.serde_json.specs.View.{view, items_view};
 ghost use Rattle.serde_json.specs.Find.{get};
-ghost use Rattle.etcd_messages.specs.Faults.{Gives, member_name, status_fault};
-ghost use Rattle.etcd_messages.specs.Answers.{is_digit, decimal_from, digits_value, if_few, count_of, last_of, head_in, head_reading};
+ghost use Rattle.etcd_messages.specs.Faults.{GivesReading, member_name, status_fault};
+ghost use Rattle.etcd_messages.specs.Answers.{is_decimal_digit, digits_value_from, digits_value, if_few, line_count_of, log_head_of, log_head_in, log_head_reading};
 ghost use Rattle.etcd_messages.specs.declared.fault.Member.TheVariants as members;
 
 use crate::answer::answer_with;
@@ -21,13 +21,13 @@ use usbnum_core::Slug;
 const MOST_DIGITS: usize = 10;
 
 fn is_digit(b: u8) -> bool
-    ensures { result ≡ is_digit b }
+    ensures { result ≡ is_decimal_digit b }
 {
     b.is_ascii_digit()
 }
 
 fn are_digits(bytes: &[u8]) -> bool
-    ensures { result ≡ list_all is_digit bytes.now }
+    ensures { result ≡ list_all is_decimal_digit bytes.now }
 {
     bytes.iter().all(|b| is_digit(*b))
 }
@@ -35,8 +35,8 @@ fn are_digits(bytes: &[u8]) -> bool
 // Returns the value of at most `MOST_DIGITS` digits.
 fn value_of_digits(digits: &[u8]) -> u64
     requires few { length digits.now ≤ MOST_DIGITS }
-    requires digits { list_all is_digit digits.now ≡ true }
-    ensures { result ≡ decimal_from 0 digits.now }
+    requires digits { list_all is_decimal_digit digits.now ≡ true }
+    ensures { result ≡ digits_value_from 0 digits.now }
 {
     let mut number = 0;
     for b in digits {
@@ -69,7 +69,7 @@ fn if_few(n: u64) -> Option<u32>
 
 // Returns the number of lines, which is left out if it is 0.
 fn count_in(value: &Value) -> Option<u32>
-    ensures { result ≡ count_of (get (member_name members.Count) (view value.now)) }
+    ensures { result ≡ line_count_of (get (member_name members.Count) (view value.now)) }
 {
     match value.get(Member::Count.name()) {
         None => Some(0),
@@ -78,9 +78,9 @@ fn count_in(value: &Value) -> Option<u32>
 }
 
 // Returns the head of a log of so many lines, the last of which is in these pairs.
-#[tactic(auto, unfolding(crate::specs::Answers::last_of))]
+#[tactic(auto, unfolding(crate::specs::Answers::log_head_of))]
 fn last_of(alloc: Global, name: &Slug, count: u32, pairs: &[Value]) -> Result<HeadAnswer, Unread>
-    ensures { Gives result (last_of name.now count (items_view pairs.now)) }
+    ensures { GivesReading result (log_head_of name.now count (items_view pairs.now)) }
 {
     match pairs {
         [] => {
@@ -102,9 +102,9 @@ fn last_of(alloc: Global, name: &Slug, count: u32, pairs: &[Value]) -> Result<He
     }
 }
 
-#[tactic(auto, unfolding(crate::specs::Answers::head_in))]
+#[tactic(auto, unfolding(crate::specs::Answers::log_head_in))]
 fn head_in(alloc: Global, name: &Slug, value: &Value) -> Result<HeadAnswer, Unread>
-    ensures { Gives result (head_in name.now (view value.now)) }
+    ensures { GivesReading result (log_head_in name.now (view value.now)) }
 {
     let Some(count) = count_in(value) else {
         return Err(Unread::Bad(AnswerFault::BadMember(Member::Count)));
@@ -116,9 +116,9 @@ fn head_in(alloc: Global, name: &Slug, value: &Value) -> Result<HeadAnswer, Unre
 /// Reads the answer to a read of the head of the log with this name, from the status and the body of
 /// a message. Returns the first fault if it is no such answer: the line is the last of those that
 /// are counted.
-#[tactic(auto, unfolding(crate::specs::Answers::head_reading))]
+#[tactic(auto, unfolding(crate::specs::Answers::log_head_reading))]
 pub fn read_head(alloc: Global, name: &Slug, status: u16, body: &[u8]) -> Result<HeadAnswer, Unread>
-    ensures { Gives result (head_reading name.now status body.now) }
+    ensures { GivesReading result (log_head_reading name.now status body.now) }
 {
     let value = answer_with(alloc, status_fault(status), status, body)?;
     head_in(alloc, name, &value)

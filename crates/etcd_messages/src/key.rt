@@ -1,8 +1,8 @@
 //! The keys of lines, and bytes as base64.
 
 ghost use Rattle.std.specs.Prelude.{◌≡◌, ◌<◌, IfOk, string_bytes};
-ghost use Rattle.etcd_messages.specs.Keys.{digit_at, ten_digits, in_base64, from_base64, key_text, end_text};
-ghost use Rattle.etcd_messages.specs.Faults.{Gives, present};
+ghost use Rattle.etcd_messages.specs.Keys.{digit_at_power, ten_digits, in_base64, from_base64, key_text, end_text};
+ghost use Rattle.etcd_messages.specs.Faults.{GivesReading, value_or_fault};
 ghost use Rattle.etcd_messages.specs.declared.fault.AnswerFault.TheVariants.{BadMember};
 ghost use Rattle.etcd_messages.specs.declared.fault.Member.TheVariants as members;
 
@@ -16,7 +16,7 @@ use usbnum_core::{NoMemory, Slug};
 // The digit of a number at a power of ten.
 fn digit_at(power: u64, n: u64) -> u8
     requires { 0 < power }
-    ensures { result ≡ digit_at power n }
+    ensures { result ≡ digit_at_power power n }
 {
     48 + (n / power % 10) as u8
 }
@@ -50,7 +50,7 @@ pub(crate) fn in_base64(alloc: Global, bytes: &[u8]) -> Result<String, NoMemory>
 // Returns the bytes of a value in base64, or the fault that it is none.
 #[tactic(auto, unfolding(crate::specs::Keys::from_base64, base64::specs::GeneralPurpose::decoded_of))]
 pub(crate) fn from_base64(alloc: Global, text: &str) -> Result<Line, Unread>
-    ensures { Gives result (present (BadMember members.Value) (from_base64 text.now)) }
+    ensures { GivesReading result (value_or_fault (BadMember members.Value) (from_base64 text.now)) }
 {
     match STANDARD.decode(alloc, text.as_bytes()) {
         Ok(bytes) => Ok(Line::new(bytes)),
@@ -62,7 +62,7 @@ pub(crate) fn from_base64(alloc: Global, text: &str) -> Result<Line, Unread>
 }
 
 // Returns the key of a line as base64.
-#[tactic(auto, unfolding(crate::specs::Keys::key_of))]
+#[tactic(auto, unfolding(crate::specs::Keys::line_key))]
 pub(crate) fn key_text(alloc: Global, name: &Slug, n: u64) -> Result<String, NoMemory>
     ensures { IfOk result (λ text. string_bytes text ≡ key_text name.now n) }
 {

@@ -2,7 +2,7 @@
 //! No call reads or writes a stream.
 //!
 //! A log has a name. Line n of it is the value of the key `NAME/nnnnnnnnnn`, the name, a slash and
-//! ten digits (`key_of`), and is written once. So the keys are in the order of the numbers, and
+//! ten digits (`line_key`), and is written once. So the keys are in the order of the numbers, and
 //! there is no gap.
 //!
 //! Each request is exactly the JSON text of its values. [`append_request`] puts line n on condition
@@ -12,10 +12,10 @@
 //!
 //! [`read_append`], [`read_page`], [`read_head`] and [`read_login`] read exactly what the
 //! definition over the JSON tree reads in the body of a message with status 200, or return the
-//! first fault (`append_reading`, `page_reading`, `head_reading`, `login_reading`). An answer has
-//! the fault
+//! first fault (`append_reading`, `page_reading`, `log_head_reading`, `login_reading`). An answer
+//! has the fault
 //!
-//! - `TooLong` if it has more than 32 MiB (`most_answer`);
+//! - `TooLong` if it has more than 32 MiB (`most_answer`), and `BadJson` if it is no JSON object;
 //! - `BadMember`, which names the first such member, if it has no header, a member of another kind,
 //!   another key than the one that was asked for, a gap between two lines, or more lines to come
 //!   after none;
@@ -23,7 +23,7 @@
 //!   `BadStatus` at any other status than 200.
 //!
 //! A token has only visible characters of ASCII (`is_visible`), since it is written into the head
-//! of a message. [`error_text`] returns the text of an error, if there is one (`reason_of`).
+//! of a message. [`error_text`] returns the text of an error, if there is one (`error_reason`).
 //!
 //! Two laws say that this agrees with what etcd answers (`append_says`, `page_says`), whatever its
 //! header and its revisions are. The answer to an append is read as what became of it at the lines

@@ -3,9 +3,9 @@
 ghost use Rattle.std.specs.Prelude.{◌≡◌, IfOk, option_copied, option_map, string_bytes};
 ghost use Rattle.std.specs.List.{list_all};
 ghost use Rattle.serde_json.specs.View.{view};
-ghost use Rattle.etcd_messages.specs.Faults.{Gives, login_fault};
+ghost use Rattle.etcd_messages.specs.Faults.{GivesReading, login_fault};
 ghost use Rattle.etcd_messages.specs.Visible.{is_visible};
-ghost use Rattle.etcd_messages.specs.Answers.{object_of, reason_of, token_in, login_reading};
+ghost use Rattle.etcd_messages.specs.Answers.{answer_object, error_reason, token_in, login_reading};
 
 use crate::answer::{answer_with, object_of, text_in};
 use crate::fault::{AnswerFault, Member, Unread, login_fault};
@@ -60,7 +60,7 @@ fn are_visible(text: &[u8]) -> bool
 
 #[tactic(auto, unfolding(crate::specs::Answers::token_in))]
 fn token_in(alloc: Global, value: &Value) -> Result<Token, Unread>
-    ensures { Gives result (token_in (view value.now)) }
+    ensures { GivesReading result (token_in (view value.now)) }
 {
     let Some(text) = text_in(Member::Token, value) else {
         return Err(Unread::Bad(AnswerFault::BadMember(Member::Token)));
@@ -77,7 +77,7 @@ fn token_in(alloc: Global, value: &Value) -> Result<Token, Unread>
 /// if it is no such answer.
 #[tactic(auto, unfolding(crate::specs::Answers::login_reading))]
 pub fn read_login(alloc: Global, status: u16, body: &[u8]) -> Result<Token, Unread>
-    ensures { Gives result (login_reading status body.now) }
+    ensures { GivesReading result (login_reading status body.now) }
 {
     let value = answer_with(alloc, login_fault(status), status, body)?;
     token_in(alloc, &value)
@@ -94,7 +94,7 @@ fn copied(alloc: Global, text: Option<&str>) -> Result<Option<String>, NoMemory>
 
 /// Returns what etcd says of an error in the body of a message, if it is JSON.
 pub fn error_text(alloc: Global, body: &[u8]) -> Result<Option<String>, NoMemory>
-    ensures { IfOk result (λ text. option_map string_bytes text ≡ reason_of (object_of body.now)) }
+    ensures { IfOk result (λ text. option_map string_bytes text ≡ error_reason (answer_object body.now)) }
 {
     match object_of(alloc, body) {
         Ok(value) => copied(alloc, text_in(Member::Error, &value)),

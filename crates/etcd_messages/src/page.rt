@@ -2,8 +2,8 @@
 
 ghost use Rattle.std.specs.Prelude.{◌≡◌, ◌<◌, OnOk};
 ghost use Rattle.serde_json.specs.View.{view, items_view};
-ghost use Rattle.etcd_messages.specs.Faults.{Gives, status_fault};
-ghost use Rattle.etcd_messages.specs.Answers.{most_lines, line_of, lines_from, page_of, page_in, page_reading};
+ghost use Rattle.etcd_messages.specs.Faults.{GivesReading, status_fault};
+ghost use Rattle.etcd_messages.specs.Answers.{line_number_bound, numbered_line, lines_from, page_of, page_in, page_reading};
 
 use crate::answer::{answer_with, flag_in};
 use crate::fault::{AnswerFault, Member, Unread, status_fault};
@@ -19,8 +19,8 @@ const GREATEST_LINE: u64 = 4_294_967_295;
 
 // Returns the line of a pair, which has to be line n.
 fn line_of(alloc: Global, name: &Slug, n: u64, pair: &Value) -> Result<Line, Unread>
-    ensures reads { Gives result (line_of name.now n (view pair.now)) }
-    ensures few { OnOk result (n < most_lines) }
+    ensures reads { GivesReading result (numbered_line name.now n (view pair.now)) }
+    ensures few { OnOk result (n < line_number_bound) }
 {
     if n > GREATEST_LINE {
         return Err(Unread::Bad(AnswerFault::BadMember(Member::Key)));
@@ -31,25 +31,21 @@ fn line_of(alloc: Global, name: &Slug, n: u64, pair: &Value) -> Result<Line, Unr
 
 // Returns the lines of these pairs, which have to be n and the numbers after it.
 fn lines_from(alloc: Global, name: &Slug, n: u32, pairs: &[Value]) -> Result<Lines, Unread>
-    ensures { Gives result (lines_from name.now n (items_view pairs.now)) }
+    ensures { GivesReading result (lines_from name.now n (items_view pairs.now)) }
 {
     let mut lines = Lines::new(alloc);
     let mut next = u64::from(n);
     for pair in pairs {
-        match line_of(alloc, name, next, pair) {
-            Ok(line) => {
-                lines.push(line)?;
-                next += 1;
-            }
-            Err(unread) => return Err(unread),
-        }
+        let line = line_of(alloc, name, next, pair)?;
+        lines.push(line)?;
+        next += 1;
     }
     Ok(lines)
 }
 
 #[tactic(auto, unfolding(crate::specs::Answers::page_of))]
 fn page_of(lines: Lines, more: bool) -> Result<PageAnswer, Unread>
-    ensures { Gives result (page_of lines more) }
+    ensures { GivesReading result (page_of lines more) }
 {
     if more && lines.is_empty() {
         Err(Unread::Bad(AnswerFault::BadMember(Member::More)))
@@ -60,7 +56,7 @@ fn page_of(lines: Lines, more: bool) -> Result<PageAnswer, Unread>
 
 #[tactic(auto, unfolding(crate::specs::Answers::page_in))]
 fn page_in(alloc: Global, name: &Slug, n: u32, value: &Value) -> Result<PageAnswer, Unread>
-    ensures { Gives result (page_in name.now n (view value.now)) }
+    ensures { GivesReading result (page_in name.now n (view value.now)) }
 {
     let pairs = pairs_in(value)?;
     let lines = lines_from(alloc, name, n, pairs)?;
@@ -79,7 +75,7 @@ pub fn read_page(
     status: u16,
     body: &[u8],
 ) -> Result<PageAnswer, Unread>
-    ensures { Gives result (page_reading name.now n status body.now) }
+    ensures { GivesReading result (page_reading name.now n status body.now) }
 {
     let value = answer_with(alloc, status_fault(status), status, body)?;
     page_in(alloc, name, n, &value)

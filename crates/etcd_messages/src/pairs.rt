@@ -3,8 +3,8 @@
 ghost use Rattle.std.specs.Prelude.{◌≡◌};
 ghost use Rattle.serde_json.specs.Find.{get};
 ghost use Rattle.serde_json.specs.View.{view, items_view};
-ghost use Rattle.etcd_messages.specs.Faults.{Gives, GivesSeen, member_name, present};
-ghost use Rattle.etcd_messages.specs.Answers.{pairs_in, value_of, is_text, line_in, text_in};
+ghost use Rattle.etcd_messages.specs.Faults.{GivesReading, ShowsReading, member_name, value_or_fault};
+ghost use Rattle.etcd_messages.specs.Answers.{pairs_in, value_of, is_text, keyed_line, member_text};
 ghost use Rattle.etcd_messages.specs.declared.fault.AnswerFault.TheVariants.{BadMember};
 ghost use Rattle.etcd_messages.specs.declared.fault.Member.TheVariants as members;
 
@@ -17,7 +17,7 @@ use std::alloc::Global;
 
 // Returns the pairs of an answer, which are left out if there is none.
 pub(crate) fn pairs_in(value: &Value) -> Result<&[Value], Unread>
-    ensures { GivesSeen (λ pairs. items_view pairs.now) result (pairs_in (view value.now)) }
+    ensures { ShowsReading (λ pairs. items_view pairs.now) result (pairs_in (view value.now)) }
 {
     match value.get(Member::Kvs.name()) {
         None => Ok(&[]),
@@ -30,7 +30,7 @@ pub(crate) fn pairs_in(value: &Value) -> Result<&[Value], Unread>
 
 // Returns whether a pair has this key.
 fn has_key(key: &str, pair: &Value) -> bool
-    ensures { result ≡ is_text key.now (text_in members.Key (view pair.now)) }
+    ensures { result ≡ is_text key.now (member_text members.Key (view pair.now)) }
 {
     match text_in(Member::Key, pair) {
         Some(found) => found == key,
@@ -40,7 +40,7 @@ fn has_key(key: &str, pair: &Value) -> bool
 
 // Returns the bytes of the value of a pair, which is left out if it is empty.
 fn value_in(alloc: Global, pair: &Value) -> Result<Line, Unread>
-    ensures { Gives result (present (BadMember members.Value) (value_of (get (member_name members.Value) (view pair.now)))) }
+    ensures { GivesReading result (value_or_fault (BadMember members.Value) (value_of (get (member_name members.Value) (view pair.now)))) }
 {
     match pair.get(Member::Value.name()) {
         None => Ok(Line::new(Vec::new(alloc))),
@@ -52,9 +52,9 @@ fn value_in(alloc: Global, pair: &Value) -> Result<Line, Unread>
 }
 
 // Returns the line of a pair, whose key has to be this one.
-#[tactic(auto, unfolding(crate::specs::Answers::line_in))]
+#[tactic(auto, unfolding(crate::specs::Answers::keyed_line))]
 pub(crate) fn line_in(alloc: Global, key: &str, pair: &Value) -> Result<Line, Unread>
-    ensures { Gives result (line_in key.now (view pair.now)) }
+    ensures { GivesReading result (keyed_line key.now (view pair.now)) }
 {
     if has_key(key, pair) {
         value_in(alloc, pair)

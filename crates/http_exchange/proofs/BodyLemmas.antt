@@ -17,8 +17,8 @@ use Rattle.http1.specs.Decoder.{decoder_for, AwaitsTrailers, Completes, with_fro
 use Rattle.http1.proofs.DecoderLemmas.{decoder_for-live}
 use Rattle.http1.proofs.OneParse.{body_from_completes, body_unique, completes_from_body}
 use Rattle.http_exchange.specs.declared.start.Start.{Start}
-use Rattle.http_exchange.specs.Bodies.{Goes, IsAt, first_of}
-use Rattle.http_exchange.specs.Heads.{HasHead, limits, if_bounded}
+use Rattle.http_exchange.specs.Bodies.{Goes, IsBodyAt, first_decoder}
+use Rattle.http_exchange.specs.Heads.{HasAnswerHead, limits, if_bounded}
 use Rattle.http_exchange.specs.declared.connection.Connection.{Ghosts}
 use Rattle.http_exchange.specs.Exchanges.{ReadsMore, most_message}
 use Rattle.http_exchange.specs.Answers.{AwaitsFields, IsAnswer, IsAwaited, HasNoAnswer, MayAnswer, NeverAnswers, SaysOneThing}
@@ -79,48 +79,48 @@ whole_body first now whole left got trailers rest g h =
 
 -- the body behind this head was read up to a place, and gave these bytes
 abbrev pub GoesTo : List ℕ → Start → Decoder → ℕ → List ℕ → Type 0
-GoesTo bytes start now at got = Goes (first_of start) now (drop start.len bytes) (drop at bytes) got
+GoesTo bytes start now at got = Goes (first_decoder start) now (drop start.len bytes) (drop at bytes) got
 
 pub goes_past : (bytes : List ℕ) (start : Start) (now next : Decoder) (at len : ℕ) (got piece : List ℕ) → GoesTo bytes start now at got → Continues now (drop at bytes) next len piece → GoesTo bytes start next (at + len) (got ++ piece)
 goes_past bytes start now next at len got piece g c =
-    subst (λ (t : List ℕ). Goes (first_of start) next (drop start.len bytes) t (got ++ piece)) (drop-drop len at bytes) (goes_on (first_of start) now next (drop start.len bytes) (drop at bytes) got piece len g c)
+    subst (λ (t : List ℕ). Goes (first_decoder start) next (drop start.len bytes) t (got ++ piece)) (drop-drop len at bytes) (goes_on (first_decoder start) now next (drop start.len bytes) (drop at bytes) got piece len g c)
 
-pub goes_further : (bytes : List ℕ) (start : Start) (now : Decoder) (at : ℕ) (got piece : List ℕ) → HasHead bytes start → at ≤ length bytes → GoesTo bytes start now at got → GoesTo (bytes ++ piece) start now at got
+pub goes_further : (bytes : List ℕ) (start : Start) (now : Decoder) (at : ℕ) (got piece : List ℕ) → HasAnswerHead bytes start → at ≤ length bytes → GoesTo bytes start now at got → GoesTo (bytes ++ piece) start now at got
 goes_further bytes start now at got piece head within g =
-    let a = goes_read (first_of start) now (drop start.len bytes) (drop at bytes) got piece g in
-    let b = subst (λ (t : List ℕ). Goes (first_of start) now t (drop at bytes ++ piece) got) (sym (drop-append-le start.len bytes piece head.within)) a in
-    subst (λ (t : List ℕ). Goes (first_of start) now (drop start.len (bytes ++ piece)) t got) (sym (drop-append-le at bytes piece within)) b
+    let a = goes_read (first_decoder start) now (drop start.len bytes) (drop at bytes) got piece g in
+    let b = subst (λ (t : List ℕ). Goes (first_decoder start) now t (drop at bytes ++ piece) got) (sym (drop-append-le start.len bytes piece head.within)) a in
+    subst (λ (t : List ℕ). Goes (first_decoder start) now (drop start.len (bytes ++ piece)) t got) (sym (drop-append-le at bytes piece within)) b
 
 -- the body ran dry, and further bytes came
-pub goes_dry : (bytes : List ℕ) (start : Start) (now next : Decoder) (at len : ℕ) (got piece : List ℕ) → HasHead bytes start → at ≤ length bytes → GoesTo bytes start now at got → Starves now (drop at bytes) next len → GoesTo (bytes ++ piece) start next (at + len) got
+pub goes_dry : (bytes : List ℕ) (start : Start) (now next : Decoder) (at len : ℕ) (got piece : List ℕ) → HasAnswerHead bytes start → at ≤ length bytes → GoesTo bytes start now at got → Starves now (drop at bytes) next len → GoesTo (bytes ++ piece) start next (at + len) got
 goes_dry bytes start now next at len got piece head within g starves =
     let past = goes_past bytes start now next at len got [] g starves.continues in
     let same = subst (λ (t : List ℕ). GoesTo bytes start next (at + len) t) (append-nil got) past in
     let fits = starves.continues.within in
     goes_further bytes start next (at + len) got piece head (omega (arith, fits, within, length-drop at bytes)) same
 
-completes_of : (bytes : List ℕ) (start : Start) (status : ℕ) (body : List ℕ) (keeps : Bool) → HasHead bytes start → IsAnswer bytes status body keeps
-    → (trailers : List Field) × (rest : List ℕ) × Completes (first_of start) (drop start.len bytes) (body_of body trailers) rest × (length trailers ≤ 64)
+completes_of : (bytes : List ℕ) (start : Start) (status : ℕ) (body : List ℕ) (keeps : Bool) → HasAnswerHead bytes start → IsAnswer bytes status body keeps
+    → (trailers : List Field) × (rest : List ℕ) × Completes (first_decoder start) (drop start.len bytes) (body_of body trailers) rest × (length trailers ≤ 64)
 completes_of bytes start status body keeps head answer =
     let same = same_start bytes answer.start start answer.head head in
     let read = completes_from_body limits answer.start.framing (drop answer.start.len bytes) (body_of body answer.trailers) answer.rest answer.reads in
-    let moved = subst (λ (n : ℕ). Completes (first_of answer.start) (drop n bytes) (body_of body answer.trailers) answer.rest) same.0 read in
+    let moved = subst (λ (n : ℕ). Completes (first_decoder answer.start) (drop n bytes) (body_of body answer.trailers) answer.rest) same.0 read in
     (answer.trailers, answer.rest, subst (λ (f : Framing). Completes (decoder_for limits f) (drop start.len bytes) (body_of body answer.trailers) answer.rest) same.1 moved, answer.few)
 
-pub no_answer_yet : (bytes : List ℕ) (start : Start) (now next : Decoder) (at len : ℕ) (got : List ℕ) → HasHead bytes start → GoesTo bytes start now at got → Starves now (drop at bytes) next len → HasNoAnswer bytes
+pub no_answer_yet : (bytes : List ℕ) (start : Start) (now next : Decoder) (at len : ℕ) (got : List ℕ) → HasAnswerHead bytes start → GoesTo bytes start now at got → Starves now (drop at bytes) next len → HasNoAnswer bytes
 no_answer_yet bytes start now next at len got head g starves = record {
   none = λ status body keeps answer.
       let found = completes_of bytes start status body keeps head answer in
-      not_whole (first_of start) now next (drop start.len bytes) (drop at bytes) got len g starves (body_of body found.0) found.1 found.2;
+      not_whole (first_decoder start) now next (drop start.len bytes) (drop at bytes) got len g starves (body_of body found.0) found.1 found.2;
 }
 
 -- some bytes can follow that end the body
-may_answer : (bytes : List ℕ) (start : Start) (now : Decoder) (at : ℕ) (got : List ℕ) → HasHead bytes start → GoesTo bytes start now at got → drop at bytes ≡ [] → MayAnswer bytes
+may_answer : (bytes : List ℕ) (start : Start) (now : Decoder) (at : ℕ) (got : List ℕ) → HasAnswerHead bytes start → GoesTo bytes start now at got → drop at bytes ≡ [] → MayAnswer bytes
 may_answer bytes start now at got head g none =
-    let end = can_end now (is_live (first_of start) now g.taken got g.has_taken) (has_room start.framing now g.taken got g.has_taken) in
+    let end = can_end now (is_live (first_decoder start) now g.taken got g.has_taken) (has_room start.framing now g.taken got g.has_taken) in
     let there = subst (λ (t : List ℕ). Completes now (t ++ end.0) (body_of end.1 []) []) (sym none) end.2 in
     let whole = g.back end.0 (body_of end.1 []) [] there in
-    let moved = subst (λ (t : List ℕ). Completes (first_of start) t (body_of (got ++ end.1) []) []) (sym (drop-append-le start.len bytes end.0 head.within)) whole in
+    let moved = subst (λ (t : List ℕ). Completes (first_decoder start) t (body_of (got ++ end.1) []) []) (sym (drop-append-le start.len bytes end.0 head.within)) whole in
     let answer : IsAnswer (bytes ++ end.0) start.status (got ++ end.1) (start.stays && (length {A = ℕ} [] == 0)) = record {
       start = start;
       head = has_head_more bytes start end.0 head;
@@ -134,23 +134,23 @@ may_answer bytes start now at got head g none =
     (end.0, start.status, got ++ end.1, start.stays && (length {A = ℕ} [] == 0), answer)
 
 -- the chunks are whole, and the fields behind them have begun
-awaits_fields : (bytes : List ℕ) (start : Start) (now : Decoder) (at : ℕ) (got : List ℕ) → HasHead bytes start → GoesTo bytes start now at got → AwaitsTrailers now (length (drop at bytes)) → MayBecomeSection (drop at bytes) → AwaitsFields bytes
+awaits_fields : (bytes : List ℕ) (start : Start) (now : Decoder) (at : ℕ) (got : List ℕ) → HasAnswerHead bytes start → GoesTo bytes start now at got → AwaitsTrailers now (length (drop at bytes)) → MayBecomeSection (drop at bytes) → AwaitsFields bytes
 awaits_fields bytes start now at got head g waits begun =
     let taken = chunks_taken start.framing now (drop start.len bytes) g.taken (drop at bytes) got g.split g.has_taken waits in
     record { start = start; head = head; chunked = taken.0; chunks = taken.1; fields = drop at bytes; reads = taken.2; begun = begun; short = taken.3 }
 
-pub never_whole : (bytes : List ℕ) (start : Start) (now : Decoder) (at room : ℕ) (got : List ℕ) → HasHead bytes start → GoesTo bytes start now at got → room ≡ 64 → HasNoBody now (drop at bytes) room → NeverAnswers bytes
+pub never_whole : (bytes : List ℕ) (start : Start) (now : Decoder) (at room : ℕ) (got : List ℕ) → HasAnswerHead bytes start → GoesTo bytes start now at got → room ≡ 64 → HasNoBody now (drop at bytes) room → NeverAnswers bytes
 never_whole bytes start now at room got head g wide none = record {
   never = λ more status body keeps answer.
       let found = completes_of (bytes ++ more) start status body keeps (has_head_more bytes start more head) answer in
-      let there = subst (λ (t : List ℕ). Completes (first_of start) t (body_of body found.0) found.1) (drop-append-le start.len bytes more head.within) found.2 in
+      let there = subst (λ (t : List ℕ). Completes (first_decoder start) t (body_of body found.0) found.1) (drop-append-le start.len bytes more head.within) found.2 in
       let tail = g.forth more (body_of body found.0) found.1 there in
       let many = none more tail.0 found.1 tail.2 in
       let same : length found.0 ≡ length tail.0.trailers = ap (λ (b : Body). length b.trailers) tail.1 in
       omega (arith, many, found.3, same, wide);
 }
 
-pub answer_found : (bytes : List ℕ) (start : Start) (now : Decoder) (at len count : ℕ) (got : List ℕ) (spans : List HeaderSpan) → HasHead bytes start → GoesTo bytes start now at got → length spans ≡ 64 → Ends now (drop at bytes) spans len count
+pub answer_found : (bytes : List ℕ) (start : Start) (now : Decoder) (at len count : ℕ) (got : List ℕ) (spans : List HeaderSpan) → HasAnswerHead bytes start → GoesTo bytes start now at got → length spans ≡ 64 → Ends now (drop at bytes) spans len count
     → IsAnswer bytes start.status got (start.stays && (length (drop len (drop at bytes)) == 0))
 answer_found bytes start now at len count got spans head g wide ends =
     let lens = ap length ends.covered in
@@ -160,7 +160,7 @@ answer_found bytes start now at len count got spans head g wide ends =
       head = head;
       trailers = ends.trailers;
       rest = drop len (drop at bytes);
-      reads = body_from_completes limits start.framing (drop start.len bytes) (body_of got ends.trailers) (drop len (drop at bytes)) (whole_body (first_of start) now (drop start.len bytes) (drop at bytes) got ends.trailers (drop len (drop at bytes)) g (ends.completes []));
+      reads = body_from_completes limits start.framing (drop start.len bytes) (body_of got ends.trailers) (drop len (drop at bytes)) (whole_body (first_decoder start) now (drop start.len bytes) (drop at bytes) got ends.trailers (drop len (drop at bytes)) g (ends.completes []));
       few = omega (arith, simp (length-map, length-take) at lens, length-take count spans);
       status_is = refl;
       keeps_is = refl;
@@ -184,41 +184,41 @@ bounded_by final found Framed.Chunked e = λ until. cc
 bounded_by final found Framed.UntilClose e = absurd (never_closing final found e)
 
 -- a body behind a head begins here, and its end is not that of the connection
-pub begins_at : (bytes : List ℕ) (start : Start) (now : Decoder) → HasHead bytes start → length bytes ≤ most_message → now ≡ first_of start → IsAt bytes start now start.len []
+pub begins_at : (bytes : List ℕ) (start : Start) (now : Decoder) → HasAnswerHead bytes start → length bytes ≤ most_message → now ≡ first_decoder start → IsBodyAt bytes start now start.len []
 begins_at bytes start now h few is = record {
   head = h;
-  goes = subst (λ (d : Decoder). Goes (first_of start) d (drop start.len bytes) (drop start.len bytes) []) (sym is) (goes_nowhere (first_of start) (drop start.len bytes)
+  goes = subst (λ (d : Decoder). Goes (first_decoder start) d (drop start.len bytes) (drop start.len bytes) []) (sym is) (goes_nowhere (first_decoder start) (drop start.len bytes)
       (bounded_by (nat_le 200 (status_code h.head)) (response_framing Other (status_code h.head) h.head.minor (known_of h.head.fields)) start.framing h.framed) (decoder_for-live limits start.framing));
   within = h.within;
   few = few;
 }
 
 -- a piece was taken
-pub is_past : (bytes : List ℕ) (start : Start) (now next : Decoder) (at len : ℕ) (left got piece all : List ℕ) → IsAt bytes start now at got → left ≡ drop at bytes → Continues now left next len piece → all ≡ got ++ piece → IsAt bytes start next (at + len) all
+pub is_past : (bytes : List ℕ) (start : Start) (now next : Decoder) (at len : ℕ) (left got piece all : List ℕ) → IsBodyAt bytes start now at got → left ≡ drop at bytes → Continues now left next len piece → all ≡ got ++ piece → IsBodyAt bytes start next (at + len) all
 is_past bytes start now next at len left got piece all is same went grown = let c = subst (λ (t : List ℕ). Continues now t next len piece) same went in record {
   head = is.head;
-  goes = subst (λ (t : List ℕ). Goes (first_of start) next (drop start.len bytes) (drop (at + len) bytes) t) (sym grown) (goes_past bytes start now next at len got piece is.goes c);
+  goes = subst (λ (t : List ℕ). Goes (first_decoder start) next (drop start.len bytes) (drop (at + len) bytes) t) (sym grown) (goes_past bytes start now next at len got piece is.goes c);
   within = let fits = c.within in omega (arith, fits, is.within, length-drop at bytes);
   few = is.few;
 }
 
 -- the body ran dry, and further bytes came
-pub is_further : {C : Type 0} (g : Ghosts C) (old new : C) (bytes after left got : List ℕ) (start : Start) (now next : Decoder) (at len : ℕ) → IsAt bytes start now at got → left ≡ drop at bytes → Starves now left next len → ReadsMore g old new bytes after → length after ≤ most_message → IsAt after start next (at + len) got
+pub is_further : {C : Type 0} (g : Ghosts C) (old new : C) (bytes after left got : List ℕ) (start : Start) (now next : Decoder) (at len : ℕ) → IsBodyAt bytes start now at got → left ≡ drop at bytes → Starves now left next len → ReadsMore g old new bytes after → length after ≤ most_message → IsBodyAt after start next (at + len) got
 is_further g old new bytes after left got start now next at len is same dry more few =
     let starves = subst (λ (t : List ℕ). Starves now t next len) same dry in
     let piece = more.piece in
     let grown = more.grown in
     let fits = starves.continues.within in
-    let whole : IsAt (bytes ++ piece) start next (at + len) got = record {
+    let whole : IsBodyAt (bytes ++ piece) start next (at + len) got = record {
       head = has_head_more bytes start piece is.head;
       goes = goes_dry bytes start now next at len got piece is.head is.within is.goes starves;
       within = omega (arith, fits, is.within, length-drop at bytes, length-append bytes piece);
       few = subst (λ (t : List ℕ). length t ≤ most_message) grown few;
     } in
-    subst (λ (t : List ℕ). IsAt t start next (at + len) got) (sym grown) whole
+    subst (λ (t : List ℕ). IsBodyAt t start next (at + len) got) (sym grown) whole
 
 -- the body ran dry, and more of it is awaited
-pub is_dry : (bytes left got : List ℕ) (start : Start) (now next : Decoder) (at len : ℕ) → IsAt bytes start now at got → left ≡ drop at bytes → Starves now left next len → IsAwaited bytes
+pub is_dry : (bytes left got : List ℕ) (start : Start) (now next : Decoder) (at len : ℕ) → IsBodyAt bytes start now at got → left ≡ drop at bytes → Starves now left next len → IsAwaited bytes
 is_dry bytes left got start now next at len is same starves =
     let dry = subst (λ (t : List ℕ). Starves now t next len) same starves in
     let past = goes_past bytes start now next at len got [] is.goes dry.continues in
@@ -229,10 +229,10 @@ is_dry bytes left got start now next at len is same starves =
           (λ waits. inr (awaits_fields bytes start next (at + len) (got ++ []) is.head past (subst (λ (t : List ℕ). AwaitsTrailers next (length t)) on waits) (subst MayBecomeSection on (dry.may_end waits)))) dry.drained);
     }
 
-pub never_at : (bytes : List ℕ) (start : Start) (now : Decoder) (at room : ℕ) (left got : List ℕ) → IsAt bytes start now at got → left ≡ drop at bytes → room ≡ 64 → HasNoBody now left room → NeverAnswers bytes
+pub never_at : (bytes : List ℕ) (start : Start) (now : Decoder) (at room : ℕ) (left got : List ℕ) → IsBodyAt bytes start now at got → left ≡ drop at bytes → room ≡ 64 → HasNoBody now left room → NeverAnswers bytes
 never_at bytes start now at room left got is same wide none = never_whole bytes start now at room got is.head is.goes wide (subst (λ (t : List ℕ). HasNoBody now t room) same none)
 
-pub ends_at : (bytes : List ℕ) (start : Start) (now : Decoder) (at len count : ℕ) (left got : List ℕ) (spans : List HeaderSpan) (is_last : Bool) → IsAt bytes start now at got → left ≡ drop at bytes → length spans ≡ 64 → Ends now left spans len count
+pub ends_at : (bytes : List ℕ) (start : Start) (now : Decoder) (at len count : ℕ) (left got : List ℕ) (spans : List HeaderSpan) (is_last : Bool) → IsBodyAt bytes start now at got → left ≡ drop at bytes → length spans ≡ 64 → Ends now left spans len count
     → is_last ≡ (length (drop len left) == 0) → IsAnswer bytes start.status got (start.stays && is_last)
 ends_at bytes start now at len count left got spans is_last is same wide ends last =
     let there = subst (λ (t : List ℕ). Ends now t spans len count) same ends in

@@ -14,7 +14,7 @@ use Rattle.http1.specs.Decoder.{decoder_for, AwaitsTrailers, Completes, IsLive, 
 use Rattle.http1.proofs.ChunksLive.{HasRoomToEnd, chunks_can_finish}
 use Rattle.http1.proofs.ChunksSound.{chunks_from_run}
 use Rattle.http1.proofs.RunLemmas.{run-append, run-nil, run_after, run_stops}
-use Rattle.http_exchange.specs.Bodies.{HasTaken}
+use Rattle.http_exchange.specs.Bodies.{HasDecoded}
 use Rattle.http_exchange.specs.Heads.{limits}
 
 -- an empty line ends the fields behind a body, if there are none
@@ -40,12 +40,12 @@ can_end (Length left) live room = let bytes = replicate {A = ℕ} left 0 in (byt
 can_end (Chunked chunks most) live room = chunks_can_end chunks most live room
 can_end UntilClose live room = ([], [], (refl, refl, refl))
 
-pub takes_nothing : (d : Decoder) → IsLive d → HasTaken d d [] []
+pub takes_nothing : (d : Decoder) → IsLive d → HasDecoded d d [] []
 takes_nothing (Length left) live = (left, refl)
 takes_nothing (Chunked chunks most) live = (chunks, refl, run-nil chunks, live)
 takes_nothing UntilClose live = refl
 
-pub takes_on : (first now next : Decoder) (taken left got piece : List ℕ) (len : ℕ) → HasTaken first now taken got → Runs now left next len piece → HasTaken first next (taken ++ take len left) (got ++ piece)
+pub takes_on : (first now next : Decoder) (taken left got piece : List ℕ) (len : ℕ) → HasDecoded first now taken got → Runs now left next len piece → HasDecoded first next (taken ++ take len left) (got ++ piece)
 takes_on (Length n) now next taken left got piece len has runs =
     let went = subst (λ (d : Decoder). Runs d left next len piece) has.1 runs in
     (_, went)
@@ -54,19 +54,19 @@ takes_on (Chunked chunks most) now next taken left got piece len has runs =
     (went.0, went.1, run_after chunks has.0 taken got (take len left) has.2 ∙ ap (prepend got) went.2, went.3)
 takes_on UntilClose now next taken left got piece len has runs = subst (λ (d : Decoder). Runs d left next len piece) has runs
 
-pub is_live : (first now : Decoder) (taken got : List ℕ) → HasTaken first now taken got → IsLive now
+pub is_live : (first now : Decoder) (taken got : List ℕ) → HasDecoded first now taken got → IsLive now
 is_live (Length n) now taken got has = subst IsLive (sym has.1) tt
 is_live (Chunked chunks most) now taken got has = subst IsLive (sym has.1) has.3
 is_live UntilClose now taken got has = subst IsLive (sym has) tt
 
-pub has_room : (framing : Framing) (now : Decoder) (taken got : List ℕ) → HasTaken (decoder_for limits framing) now taken got → HasRoomToEnd now
+pub has_room : (framing : Framing) (now : Decoder) (taken got : List ℕ) → HasDecoded (decoder_for limits framing) now taken got → HasRoomToEnd now
 has_room Framed.NoBody now taken got has = subst HasRoomToEnd (sym has.1) tt
 has_room (Framed.Length n) now taken got has = subst HasRoomToEnd (sym has.1) tt
 has_room Framed.Chunked now taken got has = subst HasRoomToEnd (sym has.1) (omega arith)
 has_room Framed.UntilClose now taken got has = subst HasRoomToEnd (sym has) tt
 
 -- what awaits its fields are chunks, and they are whole
-pub chunks_taken : (framing : Framing) (now : Decoder) (whole taken left got : List ℕ) → whole ≡ taken ++ left → HasTaken (decoder_for limits framing) now taken got → AwaitsTrailers now (length left)
+pub chunks_taken : (framing : Framing) (now : Decoder) (whole taken left got : List ℕ) → whole ≡ taken ++ left → HasDecoded (decoder_for limits framing) now taken got → AwaitsTrailers now (length left)
     → (is : framing ≡ Framed.Chunked) × (chunks : Chunks) × ReadsChunks limits.max_extensions_len whole chunks left × (length left < limits.max_trailers_len)
 chunks_taken Framed.NoBody now whole taken left got split has waits = absurd (subst (λ (d : Decoder). AwaitsTrailers d (length left)) has.1 waits)
 chunks_taken (Framed.Length n) now whole taken left got split has waits = absurd (subst (λ (d : Decoder). AwaitsTrailers d (length left)) has.1 waits)

@@ -13,7 +13,7 @@ use Rattle.http1.specs.Fields.{known_fields}
 use Rattle.http1.specs.Message.{known_of}
 use Rattle.http1.proofs.TextLemmas.{front_within}
 use Rattle.http_exchange.specs.declared.start.Start.{Start}
-use Rattle.http_exchange.specs.Heads.{HasHead, framing_of, may_stay}
+use Rattle.http_exchange.specs.Heads.{HasAnswerHead, framing_of, may_stay}
 use Rattle.http_exchange.specs.Answers.{HasNoAnswer, IsAwaited, NeverAnswers}
 
 pub no_response_nil : HasNoResponse []
@@ -61,7 +61,7 @@ never_accepted bytes h rest reads bad = record {
       bad (subst (λ (x : ResponseHead). length (print_response x) ≤ 16384) (sym same) short) _ (ap (λ (x : ResponseHead). framing_of (status_code x) x.minor (known_of x.fields)) same ∙ has.framed);
 }
 
-pub has_head_more : (bytes : List ℕ) (start : Start) (more : List ℕ) → HasHead bytes start → HasHead (bytes ++ more) start
+pub has_head_more : (bytes : List ℕ) (start : Start) (more : List ℕ) → HasAnswerHead bytes start → HasAnswerHead (bytes ++ more) start
 has_head_more bytes start more h = record {
   head = h.head;
   reads = subst (λ (t : List ℕ). ReadsResponse (bytes ++ more) h.head t) (sym (drop-append-le start.len bytes more h.within)) (ReadsResponse-append bytes h.head (drop start.len bytes) more h.reads);
@@ -86,7 +86,7 @@ framing_at bytes spans r h k at known = let is = known_at bytes spans r h k at k
 pub head_at : (bytes : List ℕ) (spans : List HeaderSpan) (r : ResponseSpans) (h : ResponseHead) (k : KnownFields) (framing : Framing) (stays : Bool)
     → length spans ≡ 64 → r.len ≤ 16384 → IsResponseWithin bytes spans r → IsResponseAt bytes spans r h
     → k ≡ known_fields (map (header_bytes bytes) (take r.headers spans)) → framing_of r.code r.version k ≡ Some framing → stays ≡ may_stay r.version k
-    → HasHead bytes (record { len = r.len; status = r.code; framing = framing; stays = stays })
+    → HasAnswerHead bytes (record { len = r.len; status = r.code; framing = framing; stays = stays })
 head_at bytes spans r h k framing stays room short within at known framed stay =
     let is = known_at bytes spans r h k at known in
     let lens = ap length at.fields in
@@ -106,7 +106,7 @@ head_at bytes spans r h k framing stays room short within at known framed stay =
 pub head_of : (bytes : List ℕ) (spans : List HeaderSpan) (r : ResponseSpans) (k : KnownFields) (framing : Framing) (stays : Bool)
     → length spans ≡ 64 → r.len ≤ 16384 → IsResponseWithin bytes spans r → IsResponseOf bytes spans r
     → k ≡ known_fields (map (header_bytes bytes) (take r.headers spans)) → framing_of r.code r.version k ≡ Some framing → stays ≡ may_stay r.version k
-    → HasHead bytes (record { len = r.len; status = r.code; framing = framing; stays = stays })
+    → HasAnswerHead bytes (record { len = r.len; status = r.code; framing = framing; stays = stays })
 head_of bytes spans r k framing stays room short within of known framed stay = head_at bytes spans r of.0 k framing stays room short within of.1 known framed stay
 
 pub never_past : (bytes : List ℕ) (spans : List HeaderSpan) (r : ResponseSpans) → IsResponseOf bytes spans r → 16384 < r.len → NeverAnswers bytes
@@ -120,7 +120,7 @@ never_unframed bytes spans r k of known none = never_accepted bytes of.0 _ of.1.
     cc clash)
 
 -- the head at the front is one only
-pub same_start : (bytes : List ℕ) (a b : Start) → HasHead bytes a → HasHead bytes b → (a.len ≡ b.len) × (a.framing ≡ b.framing) × (a.status ≡ b.status) × (a.stays ≡ b.stays)
+pub same_start : (bytes : List ℕ) (a b : Start) → HasAnswerHead bytes a → HasAnswerHead bytes b → (a.len ≡ b.len) × (a.framing ≡ b.framing) × (a.status ≡ b.status) × (a.stays ≡ b.stays)
 same_start bytes a b x y =
     let same = (response_unique bytes x.head y.head _ _ x.reads y.reads).0 in
     let framings : Some a.framing ≡ Some b.framing = sym x.framed ∙ ap (λ (h : ResponseHead). framing_of (status_code h) h.minor (known_of h.fields)) same ∙ y.framed in (

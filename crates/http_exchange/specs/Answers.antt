@@ -5,17 +5,17 @@ use Rattle.http1.specs.declared.framing.Framing.TheVariants.{Chunked}
 use Rattle.http1.specs.Body.{body_of, ReadsBody}
 use Rattle.http1.specs.ChunkedBody.{Chunks, ReadsChunks}
 use Rattle.http_exchange.specs.declared.start.Start.{Start}
-use Rattle.http_exchange.specs.Heads.{HasHead, limits, most_fields, most_head}
+use Rattle.http_exchange.specs.Heads.{HasAnswerHead, limits, most_answer_fields, most_answer_head}
 
 -- The bytes begin with an answer: this is its status, this its body, and it is so that another request may be sent after
 -- it: the connection stays open, and no byte came behind the answer.
 pub record IsAnswer (bytes : List ℕ) (status : ℕ) (body : List ℕ) (keeps : Bool) : Type 0 where
   pub start : Start
-  pub head : HasHead bytes start
+  pub head : HasAnswerHead bytes start
   pub trailers : List Field
   pub rest : List ℕ
   pub reads : ReadsBody limits start.framing (drop start.len bytes) (body_of body trailers) rest
-  pub few : length trailers ≤ most_fields
+  pub few : length trailers ≤ most_answer_fields
   pub status_is : status ≡ start.status
   pub keeps_is : keeps ≡ (start.stays && (length rest == 0))
 
@@ -35,12 +35,12 @@ MayAnswer bytes = (more : List ℕ) × (status : ℕ) × (body : List ℕ) × (k
 pub record AwaitsHead (bytes : List ℕ) : Type 0 where
   pub none : HasNoResponse bytes
   pub begun : MayBecomeResponse bytes
-  pub short : length bytes < most_head
+  pub short : length bytes < most_answer_head
 
 -- the chunks of the body are whole, and behind them is the beginning of its fields, of fewer bytes than these may have
 pub record AwaitsFields (bytes : List ℕ) : Type 0 where
   pub start : Start
-  pub head : HasHead bytes start
+  pub head : HasAnswerHead bytes start
   pub chunked : start.framing ≡ Chunked
   pub chunks : Chunks
   pub fields : List ℕ

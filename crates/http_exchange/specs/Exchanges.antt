@@ -29,34 +29,34 @@ pub data HasRead {C : Type 0} (g : Ghosts C) (first : C) : C → List ℕ → Ty
 
 module _ {C : Type 0} (g : Ghosts C) where
   -- a connection that is kept was looked at, and it can be used or not; or none is kept, and none can be used
-  abbrev pub Looks : Bool → C → C → Bool → Type 0
-  Looks true old new usable = g.rests old new usable
-  Looks false old new usable = (new ≡ old) × (usable ≡ false)
+  abbrev pub LooksAtKept : Bool → C → C → Bool → Type 0
+  LooksAtKept true old new usable = g.rests old new usable
+  LooksAtKept false old new usable = (new ≡ old) × (usable ≡ false)
 
   -- a request can be written: on the connection that is kept, or on a new one
   abbrev pub IsReady : Bool → C → C → Type 0
-  IsReady kept old new = Looks kept old new true ⊎ ((middle : C) × Looks kept old middle false × g.opens middle new call_time)
+  IsReady kept old new = LooksAtKept kept old new true ⊎ ((middle : C) × LooksAtKept kept old middle false × g.opens middle new call_time)
 
   -- no connection that is kept can be used, and none was made
   abbrev pub IsUnready : Bool → C → C → Type 0
-  IsUnready kept old new = (middle : C) × Looks kept old middle false × g.fails middle new
+  IsUnready kept old new = (middle : C) × LooksAtKept kept old middle false × g.fails middle new
 
   -- the request was written whole
-  pub record IsSent (kept : Bool) (old : C) (request : List ℕ) (new : C) : Type 0 where
+  pub record IsSentWhole (kept : Bool) (old : C) (request : List ℕ) (new : C) : Type 0 where
     pub ready : C
     pub is_ready : IsReady kept old ready
     pub written : HasWritten g ready request new (length request)
 
   -- Where these bytes came, nothing more is read for this fault: a read failed or found the end, where one was to be made;
   -- or no answer can come; or one is awaited, and the message is too long; or memory ran out, maybe after one more read.
-  abbrev pub Stops : List ℕ → C → C → ExchangeFault → Type 0
-  Stops bytes old new faults.Open = ⊥
-  Stops bytes old new faults.Write = ⊥
-  Stops bytes old new faults.Read = IsReadOn bytes × g.fails old new
-  Stops bytes old new faults.Ended = IsReadOn bytes × ((room : ℕ) × (0 < room) × g.reads old new room [])
-  Stops bytes old new faults.BadMessage = NeverAnswers bytes × (new ≡ old)
-  Stops bytes old new faults.TooLong = IsAwaited bytes × ((most_message ≤ length bytes) × (new ≡ old))
-  Stops bytes old new faults.NoMemory = (new ≡ old) ⊎ (IsReadOn bytes × ((room : ℕ) × (piece : List ℕ) × g.reads old new room piece))
+  abbrev pub StopsReading : List ℕ → C → C → ExchangeFault → Type 0
+  StopsReading bytes old new faults.Open = ⊥
+  StopsReading bytes old new faults.Write = ⊥
+  StopsReading bytes old new faults.Read = IsReadOn bytes × g.fails old new
+  StopsReading bytes old new faults.Ended = IsReadOn bytes × ((room : ℕ) × (0 < room) × g.reads old new room [])
+  StopsReading bytes old new faults.BadMessage = NeverAnswers bytes × (new ≡ old)
+  StopsReading bytes old new faults.TooLong = IsAwaited bytes × ((most_message ≤ length bytes) × (new ≡ old))
+  StopsReading bytes old new faults.NoMemory = (new ≡ old) ⊎ (IsReadOn bytes × ((room : ℕ) × (piece : List ℕ) × g.reads old new room piece))
 
   -- one call of `read` gave some bytes, which came behind those before, where the message was not too long yet
   pub record ReadsMore (old new : C) (before after : List ℕ) : Type 0 where
@@ -68,14 +68,14 @@ module _ {C : Type 0} (g : Ghosts C) where
     pub short : length before < most_message
 
   -- some bytes were read, and then nothing more for this fault
-  pub record ReadFails (first last : C) (fault : ExchangeFault) : Type 0 where
+  pub record ReadsNoAnswer (first last : C) (fault : ExchangeFault) : Type 0 where
     pub middle : C
     pub bytes : List ℕ
     pub read : HasRead g first middle bytes
-    pub stops : Stops bytes middle last fault
+    pub stops : StopsReading bytes middle last fault
 
   -- an answer was read
-  pub record IsRead (first last : C) (status : ℕ) (body : List ℕ) (keeps : Bool) : Type 0 where
+  pub record ReadsAnswer (first last : C) (status : ℕ) (body : List ℕ) (keeps : Bool) : Type 0 where
     pub bytes : List ℕ
     pub read : HasRead g first last bytes
     pub answer : IsAnswer bytes status body keeps
@@ -89,31 +89,31 @@ module _ {C : Type 0} (g : Ghosts C) where
     pub stops : g.fails middle last ⊎ g.writes middle last (drop count whole) 0
 
   -- the request was written whole, and its answer read
-  pub record IsAnswered (kept : Bool) (old : C) (request : List ℕ) (new : C) (status : ℕ) (body : List ℕ) (keeps : Bool) : Type 0 where
+  pub record GetsAnswer (kept : Bool) (old : C) (request : List ℕ) (new : C) (status : ℕ) (body : List ℕ) (keeps : Bool) : Type 0 where
     pub sent : C
-    pub is_sent : IsSent kept old request sent
-    pub is_read : IsRead sent new status body keeps
+    pub is_sent : IsSentWhole kept old request sent
+    pub is_read : ReadsAnswer sent new status body keeps
 
   -- why a request got no answer
   abbrev pub GetsNoAnswer : Bool → C → List ℕ → C → ExchangeFault → Type 0
   GetsNoAnswer kept old request new faults.Open = IsUnready kept old new
   GetsNoAnswer kept old request new faults.Write = (ready : C) × IsReady kept old ready × WriteFails ready request new
-  GetsNoAnswer kept old request new faults.Read = (sent : C) × IsSent kept old request sent × ReadFails sent new faults.Read
-  GetsNoAnswer kept old request new faults.Ended = (sent : C) × IsSent kept old request sent × ReadFails sent new faults.Ended
-  GetsNoAnswer kept old request new faults.BadMessage = (sent : C) × IsSent kept old request sent × ReadFails sent new faults.BadMessage
-  GetsNoAnswer kept old request new faults.TooLong = (sent : C) × IsSent kept old request sent × ReadFails sent new faults.TooLong
-  GetsNoAnswer kept old request new faults.NoMemory = (sent : C) × IsSent kept old request sent × ReadFails sent new faults.NoMemory
+  GetsNoAnswer kept old request new faults.Read = (sent : C) × IsSentWhole kept old request sent × ReadsNoAnswer sent new faults.Read
+  GetsNoAnswer kept old request new faults.Ended = (sent : C) × IsSentWhole kept old request sent × ReadsNoAnswer sent new faults.Ended
+  GetsNoAnswer kept old request new faults.BadMessage = (sent : C) × IsSentWhole kept old request sent × ReadsNoAnswer sent new faults.BadMessage
+  GetsNoAnswer kept old request new faults.TooLong = (sent : C) × IsSentWhole kept old request sent × ReadsNoAnswer sent new faults.TooLong
+  GetsNoAnswer kept old request new faults.NoMemory = (sent : C) × IsSentWhole kept old request sent × ReadsNoAnswer sent new faults.NoMemory
 
   -- a connection that is not kept is closed
-  abbrev pub IsLeft : Bool → C → C → Type 0
-  IsLeft true old new = new ≡ old
-  IsLeft false old new = g.closes old new
+  abbrev pub IsKeptOrClosed : Bool → C → C → Type 0
+  IsKeptOrClosed true old new = new ≡ old
+  IsKeptOrClosed false old new = g.closes old new
 
   -- The request was sent once, and this is its answer. The connection is then kept, or closed.
   pub record IsExchange (kept : Bool) (old : C) (request : List ℕ) (new : C) (status : ℕ) (body : List ℕ) (keeps : Bool) : Type 0 where
     pub last : C
-    pub answered : IsAnswered kept old request last status body keeps
-    pub left : IsLeft keeps last new
+    pub answered : GetsAnswer kept old request last status body keeps
+    pub left : IsKeptOrClosed keeps last new
 
   -- the request got no answer, for this fault, and the connection is closed
   pub record ExchangeFails (kept : Bool) (old : C) (request : List ℕ) (new : C) (fault : ExchangeFault) : Type 0 where

@@ -12,12 +12,12 @@ use Rattle.http1.specs.Message.{known_of}
 use Rattle.http_exchange.specs.declared.start.Start.{Start}
 
 -- the most bytes of a head: 16 KiB
-abbrev pub most_head : ℕ
-most_head = 16384
+abbrev pub most_answer_head : ℕ
+most_answer_head = 16384
 
 -- the most fields of a head, and of a trailer
-abbrev pub most_fields : ℕ
-most_fields = 64
+abbrev pub most_answer_fields : ℕ
+most_answer_fields = 64
 
 -- the limits of a message
 abbrev pub limits : Limits
@@ -40,13 +40,13 @@ abbrev pub may_stay : ℕ → KnownFields → Bool
 may_stay minor k = (minor == 1) && not k.close
 
 -- the bytes begin with a head that is accepted, and these are its length and what it says
-pub record HasHead (bytes : List ℕ) (start : Start) : Type 0 where
+pub record HasAnswerHead (bytes : List ℕ) (start : Start) : Type 0 where
   pub head : ResponseHead
   pub reads : ReadsResponse bytes head (drop start.len bytes)
   pub within : start.len ≤ length bytes
   pub len_is : start.len ≡ length (print_response head)
-  pub short : start.len ≤ most_head
-  pub few : length head.fields ≤ most_fields
+  pub short : start.len ≤ most_answer_head
+  pub few : length head.fields ≤ most_answer_fields
   pub status : start.status ≡ status_code head
   pub framed : framing_of (status_code head) head.minor (known_of head.fields) ≡ Some start.framing
   pub stays : start.stays ≡ may_stay head.minor (known_of head.fields)

@@ -1,7 +1,7 @@
 //! Exchanges a request and its answer.
 
 ghost use Rattle.std.specs.Prelude.{IfOk, IfErr};
-ghost use Rattle.http_exchange.specs.Exchanges.{IsAnswered, GetsNoAnswer, IsExchange, ExchangeFails};
+ghost use Rattle.http_exchange.specs.Exchanges.{GetsAnswer, GetsNoAnswer, IsExchange, ExchangeFails};
 
 use crate::connection::Connection;
 use crate::fault::ExchangeFault;
@@ -17,16 +17,11 @@ fn answer_to<C: Connection>(
     kept: bool,
     request: &[u8],
 ) -> Result<Answer, ExchangeFault>
-    ensures ok { IfOk result (λ answer. IsAnswered C.Connection kept connection.old request.now connection.new answer.status answer.body.items answer.keeps) }
+    ensures ok { IfOk result (λ answer. GetsAnswer C.Connection kept connection.old request.now connection.new answer.status answer.body.items answer.keeps) }
     ensures err { IfErr result (GetsNoAnswer C.Connection kept connection.old request.now connection.new) }
 {
-    match send(connection, kept, request) {
-        Ok(()) => match read_answer(alloc, connection) {
-            Ok(answer) => Ok(answer),
-            Err(fault) => Err(fault),
-        },
-        Err(fault) => Err(fault),
-    }
+    send(connection, kept, request)?;
+    read_answer(alloc, connection)
 }
 
 /// Sends a request once, on the connection if it is kept, or else on a new one, and reads its answer.

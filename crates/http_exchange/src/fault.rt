@@ -1,5 +1,10 @@
 //! Why a request got no answer.
 
+ghost use Rattle.std.specs.Prelude.{◌≡◌};
+ghost use Rattle.http_exchange.specs.declared.fault.ExchangeFault.TheVariants.{NoMemory as OutOfMemory};
+
+use std::alloc::AllocError;
+
 /// Why a request got no answer.
 #[derive(Clone, Copy, Debug, PartialEq, Eq)]
 pub enum ExchangeFault {
@@ -17,4 +22,12 @@ pub enum ExchangeFault {
     TooLong,
     /// Memory ran out.
     NoMemory,
+}
+
+impl From<AllocError> for ExchangeFault {
+    ghost from_gives = { λ _ fault. fault ≡ OutOfMemory };
+
+    fn from(_error: AllocError) -> ExchangeFault {
+        ExchangeFault::NoMemory
+    }
 }

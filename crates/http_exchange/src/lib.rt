@@ -6,8 +6,8 @@
 //! these calls the connection gets, in their order. One that is kept is looked at first, without
 //! waiting; if it cannot be used, or none is kept, it is opened anew, with a limit of fifteen
 //! seconds for the connecting and for each call from then on (`IsReady`). Then the request is
-//! written whole, once (`IsSent`), and bytes are read only while those before them await an answer
-//! (`IsAwaited`) and are fewer than 32 MiB and 64 KiB (`HasRead`).
+//! written whole, once (`IsSentWhole`), and bytes are read only while those before them await an
+//! answer (`IsAwaited`) and are fewer than 32 MiB and 64 KiB (`HasRead`).
 //!
 //! They await one while they are the beginning of a head, of fewer than 16 KiB (`AwaitsHead`);
 //! while some bytes can follow that make an answer of them (`MayAnswer`); and while the chunks of

@@ -2,9 +2,9 @@
 
 ghost use Rattle.std.specs.Prelude.{◌≡◌, ◌≤◌, ◌<◌, ◌&&◌, [], length, IfOk, IfErr, OnOk, IfSome, IfNone};
 ghost use Rattle.httparse.specs.Spans.{IsResponseOf, IsResponseWithin};
-ghost use Rattle.http_exchange.specs.Bodies.{IsAt, bytes_left};
-ghost use Rattle.http_exchange.specs.Exchanges.{HasRead, IsRead, ReadFails, ReadsMore, Stops, most_message};
-ghost use Rattle.http_exchange.specs.Heads.{HasHead, most_fields};
+ghost use Rattle.http_exchange.specs.Bodies.{IsBodyAt, bytes_left};
+ghost use Rattle.http_exchange.specs.Exchanges.{HasRead, ReadsAnswer, ReadsNoAnswer, ReadsMore, StopsReading, most_message};
+ghost use Rattle.http_exchange.specs.Heads.{HasAnswerHead, most_answer_fields};
 ghost use Rattle.http_exchange.specs.Answers.{IsAnswer, IsAwaited, NeverAnswers};
 
 use crate::connection::Connection;
@@ -52,7 +52,7 @@ fn read_more<C: Connection>(connection: &mut C, buffer: &mut Vec<u8>) -> Result<
     requires { IsAwaited buffer.old.items }
     ensures ok { OnOk result (ReadsMore C.Connection connection.old connection.new buffer.old.items buffer.new.items) }
     ensures few { OnOk result (length buffer.new.items ≤ most_message) }
-    ensures err { IfErr result (Stops C.Connection buffer.old.items connection.old connection.new) }
+    ensures err { IfErr result (StopsReading C.Connection buffer.old.items connection.old connection.new) }
 {
     let mut chunk = [0u8; 16_384];
     let room = MOST_MESSAGE.saturating_sub(buffer.len()).min(chunk.len());
@@ -61,10 +61,10 @@ fn read_more<C: Connection>(connection: &mut C, buffer: &mut Vec<u8>) -> Result<
     }
     match connection.read(&mut chunk[..room]) {
         Ok(0) => Err(ExchangeFault::Ended),
-        Ok(count) => match buffer.extend_from_slice(&chunk[..count]) {
-            Ok(()) => Ok(()),
-            Err(_) => Err(ExchangeFault::NoMemory),
-        },
+        Ok(count) => {
+            buffer.extend_from_slice(&chunk[..count])?;
+            Ok(())
+        }
         Err(_) => Err(ExchangeFault::Read),
     }
 }
@@ -74,23 +74,21 @@ fn read_more<C: Connection>(connection: &mut C, buffer: &mut Vec<u8>) -> Result<
 fn start_of(buffer: &[u8], spans: &[HeaderSpan], head: ResponseSpans) -> Option<Start>
     requires within { IsResponseWithin buffer.now spans.now head }
     requires parsed { IsResponseOf buffer.now spans.now head }
-    requires few { length spans.now ≡ most_fields }
-    ensures some { IfSome result (HasHead buffer.now) }
+    requires few { length spans.now ≡ most_answer_fields }
+    ensures some { IfSome result (HasAnswerHead buffer.now) }
     ensures none { IfNone result (NeverAnswers buffer.now) }
 {
     if head.len > MOST_HEAD {
         return None;
     }
     let fields = KnownFields::from_spans(buffer, &spans[..head.headers]);
-    match framing_of(head.code, head.version, &fields) {
-        Some(framing) => Some(Start {
-            len: head.len,
-            status: head.code,
-            framing,
-            stays: may_stay(head.version, &fields),
-        }),
-        None => None,
-    }
+    let framing = framing_of(head.code, head.version, &fields)?;
+    Some(Start {
+        len: head.len,
+        status: head.code,
+        framing,
+        stays: may_stay(head.version, &fields),
+    })
 }
 
 // Reads until the buffer has the head of an answer, or cannot have one.
@@ -100,17 +98,14 @@ fn read_head<C: Connection>(
     buffer: &mut Vec<u8>,
 ) -> Result<Start, ExchangeFault>
     requires fresh { buffer.old.items ≡ [] }
-    ensures ok { IfOk result (HasHead buffer.new.items) }
+    ensures ok { IfOk result (HasAnswerHead buffer.new.items) }
     ensures read { OnOk result (HasRead C.Connection connection.old connection.new buffer.new.items) }
     ensures few { OnOk result (length buffer.new.items ≤ most_message) }
-    ensures err { IfErr result (ReadFails C.Connection connection.old connection.new) }
+    ensures err { IfErr result (ReadsNoAnswer C.Connection connection.old connection.new) }
 {
     let mut spans = [EMPTY_HEADER_SPAN; 64];
     'parts: while buffer.len() < MOST_HEAD {
-        match read_more(connection, buffer) {
-            Ok(()) => {}
-            Err(fault) => return Err(fault),
-        }
+        read_more(connection, buffer)?;
         match parse_response(buffer, &mut spans) {
             Ok(Status::Complete(head)) => match start_of(buffer, &spans, head) {
                 Some(start) => return Ok(start),
@@ -131,30 +126,26 @@ fn read_piece<C: Connection>(
     start: Start,
     part: &mut Part,
 ) -> Result<Option<bool>, ExchangeFault>
-    requires { IsAt buffer.old.items start part.old.decoder part.old.at part.old.body.items }
-    ensures on { IfOk result (λ end. IfNone end (IsAt buffer.new.items start part.new.decoder part.new.at part.new.body.items)) }
+    requires { IsBodyAt buffer.old.items start part.old.decoder part.old.at part.old.body.items }
+    ensures on { IfOk result (λ end. IfNone end (IsBodyAt buffer.new.items start part.new.decoder part.new.at part.new.body.items)) }
     ensures smaller { IfOk result (λ end. IfNone end (bytes_left buffer.new.items part.new.at < bytes_left buffer.old.items part.old.at)) }
     ensures read { OnOk result ((first : C) → HasRead C.Connection first connection.old buffer.old.items → HasRead C.Connection first connection.new buffer.new.items) }
     ensures end { IfOk result (λ end. IfSome end (λ is_last. IsAnswer buffer.new.items start.status part.new.body.items (start.stays && is_last))) }
     ensures err { IfErr result (λ fault. (first : C) → HasRead C.Connection first connection.old buffer.old.items
-        → ReadFails C.Connection first connection.new fault) }
+        → ReadsNoAnswer C.Connection first connection.new fault) }
 {
     let mut trailers = [EMPTY_HEADER_SPAN; 64];
     let unread = bytes_from(buffer, part.at);
     match part.decoder.decode(unread, &mut trailers) {
-        Ok(Decoded::Data(piece)) => match part.body.extend_from_slice(piece.of(unread)) {
-            Ok(()) => {
-                part.at += piece.end;
-                Ok(None)
-            }
-            Err(_) => Err(ExchangeFault::NoMemory),
-        },
+        Ok(Decoded::Data(piece)) => {
+            part.body.extend_from_slice(piece.of(unread))?;
+            part.at += piece.end;
+            Ok(None)
+        }
         Ok(Decoded::NeedMore(len)) => {
             part.at += len;
-            match read_more(connection, buffer) {
-                Ok(()) => Ok(None),
-                Err(fault) => Err(fault),
-            }
+            read_more(connection, buffer)?;
+            Ok(None)
         }
         Ok(Decoded::End { len, .. }) => Ok(Some(bytes_from(unread, len).is_empty())),
         Err(_) => Err(ExchangeFault::BadMessage),
@@ -169,12 +160,12 @@ fn read_body<C: Connection>(
     buffer: &mut Vec<u8>,
     start: Start,
 ) -> Result<Whole, ExchangeFault>
-    requires head { HasHead buffer.old.items start }
+    requires head { HasAnswerHead buffer.old.items start }
     requires few { length buffer.old.items ≤ most_message }
     ensures ok { IfOk result (λ whole. (first : C) → HasRead C.Connection first connection.old buffer.old.items
-        → IsRead C.Connection first connection.new start.status whole.body.items (start.stays && whole.is_last)) }
+        → ReadsAnswer C.Connection first connection.new start.status whole.body.items (start.stays && whole.is_last)) }
     ensures err { IfErr result (λ fault. (first : C) → HasRead C.Connection first connection.old buffer.old.items
-        → ReadFails C.Connection first connection.new fault) }
+        → ReadsNoAnswer C.Connection first connection.new fault) }
 {
     let mut part = Part {
         decoder: Decoder::new(start.framing, &limits()),
@@ -182,15 +173,11 @@ fn read_body<C: Connection>(
         body: Vec::new(alloc),
     };
     'pieces: loop {
-        match read_piece(connection, buffer, start, &mut part) {
-            Ok(None) => {}
-            Ok(Some(is_last)) => {
-                return Ok(Whole {
-                    body: part.body,
-                    is_last,
-                });
-            }
-            Err(fault) => return Err(fault),
+        if let Some(is_last) = read_piece(connection, buffer, start, &mut part)? {
+            return Ok(Whole {
+                body: part.body,
+                is_last,
+            });
         }
     }
 }
@@ -200,20 +187,15 @@ pub(crate) fn read_answer<C: Connection>(
     alloc: Global,
     connection: &mut C,
 ) -> Result<Answer, ExchangeFault>
-    ensures ok { IfOk result (λ answer. IsRead C.Connection connection.old connection.new answer.status answer.body.items answer.keeps) }
-    ensures err { IfErr result (ReadFails C.Connection connection.old connection.new) }
+    ensures ok { IfOk result (λ answer. ReadsAnswer C.Connection connection.old connection.new answer.status answer.body.items answer.keeps) }
+    ensures err { IfErr result (ReadsNoAnswer C.Connection connection.old connection.new) }
 {
     let mut buffer = Vec::new(alloc);
-    let start = match read_head(connection, &mut buffer) {
-        Ok(start) => start,
-        Err(fault) => return Err(fault),
-    };
-    match read_body(alloc, connection, &mut buffer, start) {
-        Ok(Whole { body, is_last }) => Ok(Answer {
-            status: start.status,
-            body,
-            keeps: start.stays && is_last,
-        }),
-        Err(fault) => Err(fault),
-    }
+    let start = read_head(connection, &mut buffer)?;
+    let whole = read_body(alloc, connection, &mut buffer, start)?;
+    Ok(Answer {
+        status: start.status,
+        body: whole.body,
+        keeps: start.stays && whole.is_last,
+    })
 }

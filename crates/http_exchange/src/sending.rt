@@ -2,7 +2,7 @@
 
 ghost use Rattle.std.specs.Prelude.{◌≡◌, ◌≤◌, length, drop, IfErr, OnOk};
 ghost use Rattle.http_exchange.specs.declared.fault.ExchangeFault.TheVariants as faults;
-ghost use Rattle.http_exchange.specs.Exchanges.{HasWritten, Looks, IsReady, IsUnready, IsSent, GetsNoAnswer, WriteFails};
+ghost use Rattle.http_exchange.specs.Exchanges.{HasWritten, LooksAtKept, IsReady, IsUnready, IsSentWhole, GetsNoAnswer, WriteFails};
 
 use crate::connection::Connection;
 use crate::fault::ExchangeFault;
@@ -14,7 +14,7 @@ const CALL_SECONDS: u64 = 15;
 // Returns whether a connection that is kept can be used.
 #[tactic(auto, using(crate::proofs::CallLemmas::looks_kept, crate::proofs::CallLemmas::looks_none))]
 fn is_usable<C: Connection>(connection: &mut C, kept: bool) -> bool
-    ensures { Looks C.Connection kept connection.old connection.new result }
+    ensures { LooksAtKept C.Connection kept connection.old connection.new result }
 {
     if kept { connection.rests() } else { false }
 }
@@ -29,10 +29,7 @@ fn get_ready<C: Connection>(connection: &mut C, kept: bool) -> Result<(), Exchan
         return Ok(());
     }
     let time = Duration::from_secs(CALL_SECONDS);
-    match connection.open(time) {
-        Ok(()) => Ok(()),
-        Err(_) => Err(ExchangeFault::Open),
-    }
+    connection.open(time).map_err(|_| ExchangeFault::Open)
 }
 
 // Returns the bytes from a place on.
@@ -67,14 +64,9 @@ pub(crate) fn send<C: Connection>(
     kept: bool,
     request: &[u8],
 ) -> Result<(), ExchangeFault>
-    ensures ok { OnOk result (IsSent C.Connection kept connection.old request.now connection.new) }
+    ensures ok { OnOk result (IsSentWhole C.Connection kept connection.old request.now connection.new) }
     ensures err { IfErr result (GetsNoAnswer C.Connection kept connection.old request.now connection.new) }
 {
-    match get_ready(connection, kept) {
-        Ok(()) => match write_all(connection, request) {
-            Ok(()) => Ok(()),
-            Err(fault) => Err(fault),
-        },
-        Err(fault) => Err(fault),
-    }
+    get_ready(connection, kept)?;
+    write_all(connection, request)
 }

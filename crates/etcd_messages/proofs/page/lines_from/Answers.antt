@@ -1,21 +1,23 @@
 use Rattle.std.proofs.Common.{◌≡◌, ◌+◌, drop, subst, sym, ◌∙◌, ap, arith}
+use Rattle.std.proofs.lemmas.Result.{err_from_is_err_and}
 use Rattle.serde_json.specs.Data.{Items}
 use Rattle.serde_json.specs.View.{view, items_view}
 use Rattle.etcd_messages.specs.Answers.{lines_from}
 use Rattle.etcd_messages.proofs.PageLemmas.{with_front, value_step, lines_more, lines_end, bad_line, Read}
 use Rattle.etcd_messages.proofs.page.lines_from.Goals as goal
 
-pub returns-in-Err : goal.returns-in-Err
-returns-in-Err c =
+pub returns-in_err-line : goal.returns-in_err-line
+returns-in_err-line c =
+    let p = err_from_is_err_and c.from_residual.result c.from_residual.ensures.1 in
     let name = c.args.name.now in
     let pairs = c.args.pairs.now in
     let i = c.loop-pair.pair-index in
     let front = c.loop-pair.lines in
     let n = c.loop-pair.next in
     let pair = c.pair-item.result in
-    bad_line name n front (view pair) (items_view (drop (i + 1) pairs)) c.in-Err.unread _
+    rw (p.1, p.2) (bad_line name n front (view pair) (items_view (drop (i + 1) pairs)) c.in_err-line.field-0.0 _
     (ap (λ (items : Items). with_front front (lines_from name n items)) (sym (value_step pairs i pair c.loop-pair-test.true c.pair-item.is)) ∙ c.loop-pair.invariant)
-    c.in-Err.ensures.reads
+    c.in_err-line.ensures.reads)
 
 pub loop-pair-preserved : goal.loop-pair-preserved
 loop-pair-preserved c =
@@ -25,8 +27,8 @@ loop-pair-preserved c =
     let front = c.loop-pair.lines in
     let n = c.loop-pair.next in
     let pair = c.pair-item.result in
-    rw c.in_ok-push-in-Ok.ensures.ok
-    (sym (lines_more name n front c.in-Ok.line (view pair) (items_view (drop (i + 1) pairs)) c.in-Ok.ensures.reads)
+    rw c.in_ok-push.ensures.ok
+    (sym (lines_more name n front c.in_ok-line.line (view pair) (items_view (drop (i + 1) pairs)) c.in_ok-line.ensures.reads)
     ∙ (ap (λ (items : Items). with_front front (lines_from name n items)) (sym (value_step pairs i pair c.loop-pair-test.true c.pair-item.is)) ∙ c.loop-pair.invariant))
 
 pub returns : goal.returns

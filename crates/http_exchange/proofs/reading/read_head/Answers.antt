@@ -16,9 +16,9 @@ parts-init g c =
       few = omega (arith, none);
     }
 
-pub returns-in-Err-parse_response-clause-err : goal.returns-in-Err-parse_response-clause-err
-returns-in-Err-parse_response-clause-err g c =
+pub returns-in-Err-clause-err : goal.returns-in-Err-clause-err
+returns-in-Err-clause-err g c =
     let awaited = awaits_head c.parts.buffer.items c.parts.invariant.none c.parts.invariant.begun (omega (arith, c.parts-test.true, c.len.ensures)) in
-    let read = read_on g.C.Connection c.args.connection.now c.parts.connection c.read_more.new.connection c.parts.buffer.items c.read_more.new.buffer.items c.parts.invariant.read awaited c.in-Ok.ensures.ok in
-    let over = subst (λ (t : List ℕ). ResponseOverflows (length c.parts.spans) t) c.deref.ensures.value c.in-Err-parse_response.ensures.no_room in
+    let read = read_on g.C.Connection c.args.connection.now c.parts.connection c.read_more.new.connection c.parts.buffer.items c.read_more.new.buffer.items c.parts.invariant.read awaited c.in_ok-read_more.ensures.ok in
+    let over = subst (λ (t : List ℕ). ResponseOverflows (length c.parts.spans) t) c.deref.ensures.value c.in-Err.ensures.no_room in
     never_read g.C.Connection c.args.connection.now c.read_more.new.connection c.read_more.new.buffer.items read (never_overflowing c.read_more.new.buffer.items (length c.parts.spans) (omega arith) over)

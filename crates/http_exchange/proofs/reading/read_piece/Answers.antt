@@ -10,19 +10,19 @@ read_more-requires g c =
     let dry = rw c.in-Ok-NeedMore.field-0-is at c.in-Ok-NeedMore.ensures.ok in
     is_dry c.args.buffer.now.items c.bytes_from-unread.result.now c.args.part.now.body.items c.args.start c.args.part.now.decoder c.decode.new.self c.args.part.now.at c.in-Ok-NeedMore.len c.requires same dry
 
-pub returns-in-Ok-clause-on : goal.returns-in-Ok-clause-on
-returns-in-Ok-clause-on g c =
+pub returns-in_ok-extend_from_slice-in-Ok-Data-clause-on : goal.returns-in_ok-extend_from_slice-in-Ok-Data-clause-on
+returns-in_ok-extend_from_slice-in-Ok-Data-clause-on g c =
     let same : c.bytes_from-unread.result.now ≡ drop c.args.part.now.at c.args.buffer.now.items = cc (c.bytes_from-unread.ensures, c.deref.ensures.value) in
     let found = rw c.in-Ok-Data.field-0-is at c.in-Ok-Data.ensures.ok in
     is_past c.args.buffer.now.items c.args.start c.args.part.now.decoder c.decode.new.self c.args.part.now.at c.in-Ok-Data.piece.end c.bytes_from-unread.result.now c.args.part.now.body.items (span_bytes c.bytes_from-unread.result.now c.in-Ok-Data.piece) c.extend_from_slice.new.self.items
-    c.requires same found.1 (cc (c.in-Ok.ensures.items, c.of.ensures))
+    c.requires same found.1 (cc (c.in_ok-extend_from_slice-in-Ok-Data.ensures.items, c.of.ensures))
 
-pub returns-in-Ok-read_more-clause-read : goal.returns-in-Ok-read_more-clause-read
-returns-in-Ok-read_more-clause-read g c = λ first read.
+pub returns-in_ok-read_more-in-Ok-NeedMore-clause-read : goal.returns-in_ok-read_more-in-Ok-NeedMore-clause-read
+returns-in_ok-read_more-in-Ok-NeedMore-clause-read g c = λ first read.
     let same : c.bytes_from-unread.result.now ≡ drop c.args.part.now.at c.args.buffer.now.items = cc (c.bytes_from-unread.ensures, c.deref.ensures.value) in
     let dry = rw c.in-Ok-NeedMore.field-0-is at c.in-Ok-NeedMore.ensures.ok in
     let none = is_dry c.args.buffer.now.items c.bytes_from-unread.result.now c.args.part.now.body.items c.args.start c.args.part.now.decoder c.decode.new.self c.args.part.now.at c.in-Ok-NeedMore.len c.requires same dry in
-    read_on g.C.Connection first c.args.connection.now c.read_more.new.connection c.args.buffer.now.items c.read_more.new.buffer.items read none c.in-Ok-read_more.ensures.ok
+    read_on g.C.Connection first c.args.connection.now c.read_more.new.connection c.args.buffer.now.items c.read_more.new.buffer.items read none c.in_ok-read_more-in-Ok-NeedMore.ensures.ok
 
 pub returns-in-Err-clause-err : goal.returns-in-Err-clause-err
 returns-in-Err-clause-err g c = λ first read.
@@ -30,12 +30,12 @@ returns-in-Err-clause-err g c = λ first read.
     let never = never_at c.args.buffer.now.items c.args.start c.args.part.now.decoder c.args.part.now.at 64 c.bytes_from-unread.result.now c.args.part.now.body.items c.requires same refl c.in-Err.ensures.err in
     never_read g.C.Connection first c.args.connection.now c.args.buffer.now.items read never
 
-pub returns-in-Ok-read_more-clause-on : goal.returns-in-Ok-read_more-clause-on
-returns-in-Ok-read_more-clause-on g c =
+pub returns-in_ok-read_more-in-Ok-NeedMore-clause-on : goal.returns-in_ok-read_more-in-Ok-NeedMore-clause-on
+returns-in_ok-read_more-in-Ok-NeedMore-clause-on g c =
     let same : c.bytes_from-unread.result.now ≡ drop c.args.part.now.at c.args.buffer.now.items = cc (c.bytes_from-unread.ensures, c.deref.ensures.value) in
     let dry = rw c.in-Ok-NeedMore.field-0-is at c.in-Ok-NeedMore.ensures.ok in
     is_further g.C.Connection c.args.connection.now c.read_more.new.connection c.args.buffer.now.items c.read_more.new.buffer.items c.bytes_from-unread.result.now c.args.part.now.body.items c.args.start c.args.part.now.decoder c.decode.new.self c.args.part.now.at c.in-Ok-NeedMore.len
-    c.requires same dry c.in-Ok-read_more.ensures.ok c.in-Ok-read_more.ensures.few
+    c.requires same dry c.in_ok-read_more-in-Ok-NeedMore.ensures.ok c.in_ok-read_more-in-Ok-NeedMore.ensures.few
 
 pub returns-in-Ok-End-clause-end : goal.returns-in-Ok-End-clause-end
 returns-in-Ok-End-clause-end g c =
