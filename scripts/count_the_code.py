@@ -21,7 +21,7 @@ PATTERN = r"(?:Err\((?:\w+(?:::\w+)*|_)(?:\((?:\w+|_)\))?\)|\w+::\w+(?:\((?:\w+|
 BODY = r"(?:return )?(?:Err\()?(?:\w+::)+\w+(?:\((?:\w+)?\))?\)?|(?:return )?Err\(\w+(?:\((?:\w+)\))?\)"
 ARM = re.compile(rf"^\s*(?:{PATTERN}(?: \| {PATTERN})*) => (?:{BODY}),?$", re.M)
 # A definition in specs/: an abbreviation or a record, also in a module, or another one at the margin, but no field of a record.
-DECLARED = re.compile(r"^(?: *(?:(?:abbrev|unfoldable) pub|pub (?:abbrev|record|unfoldable)) |pub (?!mod |use |abbrev |record |unfoldable ))([\w-]+)", re.M)
+DECLARED = re.compile(r"^(?: *(?:(?:abbrev|unfoldable) pub|pub (?:abbrev|data|record|unfoldable)) |pub (?!mod |use |abbrev |data |record |unfoldable ))([\w-]+)", re.M)
 # The parts of the repository in which files are counted.
 PARTS = ("src", "specs", "proofs", "tests", "mutants", "cases and examples", "web", "scripts", "pages", "others")
 PART_OF = {"bench": "scripts", "contrib": "scripts", "cases": "cases and examples", "examples": "cases and examples", "docs": "pages", "man": "pages"} | {it: it for it in PARTS}

@@ -2,8 +2,8 @@
 """Makes docs/index.md: each definition in `specs/`, with the first sentence of its comment if it has one.
 
 Usage: scripts/index_definitions.py [--write]. Without the option it writes nothing, and the exit status is 0 if the page is
-what it would write. A definition is `abbrev pub NAME`, `unfoldable pub NAME`, `pub record NAME` or, at the start of a
-line, `pub NAME`. Its comment stands right above it, and that of a file is its first lines."""
+what it would write. A definition is `abbrev pub NAME`, `unfoldable pub NAME`, `pub record NAME`, `pub data NAME` or, at the
+start of a line, `pub NAME`. Its comment stands right above it, and that of a file is its first lines."""
 
 import glob
 import re
@@ -12,7 +12,7 @@ import sys
 from lib.usbreg import TOP, content, write
 
 PAGE = f"{TOP}/docs/index.md"
-DEFINITION = re.compile(r" *(?:(?:abbrev|unfoldable) pub|pub record) (\S+)|pub (?!mod )(\S+)")
+DEFINITION = re.compile(r" *(?:(?:abbrev|unfoldable) pub|pub (?:record|data)) (\S+)|pub (?!mod )(\S+)")
 COMMENT = re.compile(r" *-- ?(.*)")
 HEAD = """# The definitions, by crate and file
 
