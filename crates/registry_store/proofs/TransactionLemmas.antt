@@ -31,7 +31,7 @@ use Rattle.registry_tables.proofs.RowsLemmas.{enters, goes_out}
 use Rattle.registry_schema.specs.declared.fault.TableFault.{TableFault}
 use Rattle.registry_store.specs.declared.attempt.Answer.{Answer}
 use Rattle.registry_store.specs.Promise.{IsAt, IsLegalWith, Leaves}
-use Rattle.registry_store.specs.Attempt.{AddsNoDeed, Answered, AsksIfNew, CommitsOne, IfNew, IsAnswerOf, Wrote, new_answer}
+use Rattle.registry_store.specs.Attempt.{AddsNoDeed, Answered, AsksIfNew, CommitsOne, IfNew, IsAnswerOf, ShowsAfter, Wrote, WroteRows, new_answer}
 use Rattle.registry_store.specs.Witness.{Hears, WasSeen}
 use Rattle.registry_store.proofs.OpeningLemmas.{rows_now}
 
@@ -49,25 +49,28 @@ pub on_err_of : {A E P : Type 0} {v : Result A E} {e : E} → v ≡ Err e → On
 on_err_of {A} {E} {P} is holds = subst (λ x. OnErr x P) is holds
 
 -- two writes, one after the other
-module _ (old mid new : State) (before after : Summary) (r : Request) (d : Deed) (changes : List Change) (reply : List ℕ) (said : reply ≡ act_text d.act)
+module _ (old mid new : State) (before : Summary) (r : Request) (d : Deed) (changes : List Change) (reply : List ℕ) (said : reply ≡ act_text d.act)
     (lead : (h : History) (x : Request) → Legal h → verdict h x ≡ New d → LeadsTo changes h (with_deed h d))
-    (carry : (h : History) (x : Request) → Legal h → AreTotalsOf h before.totals → verdict h x ≡ New d → AreTotalsOf (with_deed h d) after.totals)
     (first : Goes old mid) (rows : (h more : History) → Legal h → Legal more → more.founding ≡ h.founding → HoldsRows newest old.now h → LeadsTo changes h more → HoldsUnkept mid.now h more) where
-  pub wrote_both : Goes mid new
+  kept_as : (h : History) → verdict h r ≡ New d → IsKeptAs d r reply
+  kept_as h is = let of = new_is_of h r d is in record { caller = ap (λ (x : Request). x.caller) of; key = ap (λ (x : Request). x.key) of; order = ap (λ (x : Request). x.order) of; time = ap (λ (x : Request). x.time) of; said = said }
+
+  pub wrote_rows : Goes mid new
       → ((h : History) (x : Deed) → Legal (with_deed h x) → IsKeptAs x r reply → x.act ≡ d.act → IsHead h before.head → HoldsUnkept mid.now h (with_deed h x) → HoldsRows newest new.now (with_deed h x))
-      → ((h : History) (x : Deed) → IsKeptAs x r reply → IsHead h before.head → IsHead (with_deed h x) after.head)
-      → Wrote old new before after r d
-  wrote_both second kept headed = record {
+      → WroteRows old new before r d
+  wrote_rows second kept = record {
     shown = record { was_open = first.was_open; is_open = second.is_open; now_is = refl; committed_is = second.committed_is ∙ first.committed_is; mode = second.mode };
     made = λ h counts is rows_of.
         let legal = legal_new h r d counts.legal is in
-        let of = new_is_of h r d is in
-        let same : IsKeptAs d r reply = record { caller = ap (λ (x : Request). x.caller) of; key = ap (λ (x : Request). x.key) of; order = ap (λ (x : Request). x.order) of; time = ap (λ (x : Request). x.time) of; said = said } in
-        kept h d legal same refl counts.head_is (rows h (with_deed h d) counts.legal legal refl rows_of (lead h r counts.legal is));
-    carried = λ h counts is.
-        let of = new_is_of h r d is in
-        let same : IsKeptAs d r reply = record { caller = ap (λ (x : Request). x.caller) of; key = ap (λ (x : Request). x.key) of; order = ap (λ (x : Request). x.order) of; time = ap (λ (x : Request). x.time) of; said = said } in
-        record { totals = carry h r counts.legal counts.totals_are is; head = headed h d same counts.head_is };
+        kept h d legal (kept_as h is) refl counts.head_is (rows h (with_deed h d) counts.legal legal refl rows_of (lead h r counts.legal is));
+  }
+
+  pub wrote_both : (after : Summary) → ((h : History) (x : Request) → Legal h → AreTotalsOf h before.totals → verdict h x ≡ New d → AreTotalsOf (with_deed h d) after.totals)
+      → ((h : History) (x : Deed) → IsKeptAs x r reply → IsHead h before.head → IsHead (with_deed h x) after.head)
+      → WroteRows old new before r d → Wrote old new before after r d
+  wrote_both after carry headed written = record {
+    rows = written;
+    carried = λ h counts is. record { totals = carry h r counts.legal counts.totals_are is; head = headed h d (kept_as h is) counts.head_is };
   }
 
 -- a state that stays as it is
@@ -162,21 +165,36 @@ module _ (old mid : State) (before : Summary) (r : Request) (v : Verdict) (judge
   }
 
   -- with one its rows are written
-  pub answers_new : (last : State) (after : Summary) (d : Deed) → v ≡ New d → Wrote mid last before after r d → (reply : List ℕ) → reply ≡ act_text d.act
-      → Answered old last before after r (record { reply = Done reply; is_new = true })
-  answers_new last after d new wrote reply said = record {
-    shown = record { was_open = judged.0.was_open; is_open = wrote.shown.is_open; now_is = refl; committed_is = wrote.shown.committed_is ∙ judged.0.committed_is; mode = wrote.shown.mode };
-    of_history = λ h counts held.
+  pub shows_after : (last : State) (d : Deed) → v ≡ New d → WroteRows mid last before r d → ShowsAfter old last before r
+  shows_after last d new wrote = (
+    record { was_open = judged.0.was_open; is_open = wrote.shown.is_open; now_is = refl; committed_is = wrote.shown.committed_is ∙ judged.0.committed_is; mode = wrote.shown.mode },
+    λ h counts held.
         let it = judged.1 h counts.legal held in
         let says : verdict h r ≡ New d = sym (it.1 counts.totals_are) ∙ new in
-        let history : with_deed h d ≡ after_one h r = ap (after_verdict h) (sym says) in record {
-          reply = ap Done said ∙ ap reply_of (sym says);
-          adds = λ _. (d, says);
-          adds_none = λ never. absurd cc;
-          counts = let carried = wrote.carried h counts says in record { legal = legal_after_one h r counts.legal; totals_are = subst (λ x. AreTotalsOf x after.totals) history carried.totals; head_is = subst (λ x. IsHead x after.head) history carried.head };
-          rows = subst (HoldsRows newest last.now) history (wrote.made h counts says (subst (λ db. HoldsRows newest db h) (sym it.0.0.now_is) held));
-        };
-  }
+        subst (HoldsRows newest last.now) (ap (after_verdict h) (sym says)) (wrote.made h counts says (subst (λ db. HoldsRows newest db h) (sym it.0.0.now_is) held)),
+  )
+
+  -- they are written once the witness is asked
+  pub asks_late : {W : Type 0} (was is : W) (last : State) (d : Deed) → v ≡ New d → (is ≡ was) ⊎ WroteRows mid last before r d → (is ≡ was) ⊎ ShowsAfter old last before r
+  asks_late was is last d new (inl not) = inl not
+  asks_late was is last d new (inr wrote) = inr (shows_after last d new wrote)
+
+  pub answers_new : (last : State) (after : Summary) (d : Deed) → v ≡ New d → Wrote mid last before after r d → (reply : List ℕ) → reply ≡ act_text d.act
+      → Answered old last before after r (record { reply = Done reply; is_new = true })
+  answers_new last after d new wrote reply said =
+      let shows = shows_after last d new wrote.rows in record {
+        shown = shows.0;
+        of_history = λ h counts held.
+            let it = judged.1 h counts.legal held in
+            let says : verdict h r ≡ New d = sym (it.1 counts.totals_are) ∙ new in
+            let history : with_deed h d ≡ after_one h r = ap (after_verdict h) (sym says) in record {
+              reply = ap Done said ∙ ap reply_of (sym says);
+              adds = λ _. (d, says);
+              adds_none = λ never. absurd cc;
+              counts = let carried = wrote.carried h counts says in record { legal = legal_after_one h r counts.legal; totals_are = subst (λ x. AreTotalsOf x after.totals) history carried.totals; head_is = subst (λ x. IsHead x after.head) history carried.head };
+              rows = shows.1 h counts held;
+            };
+      }
 
   -- if they are written, and the witness saw the request
   pub accepts : {Y : Type 0} (last : State) (after : Summary) (d : Deed) → v ≡ New d → (result : Result (Result Answer Y) TableFault) → IfOk result (λ it. OnOk it (Wrote mid last before after r d))

@@ -28,9 +28,13 @@ abbrev pub AddsNoDeed : History → Request → Type 0
 AddsNoDeed h r = (d : Deed) → verdict h r ≢ New d
 
 -- the transaction shows the rows of the deed and its reply, and nothing is committed
-pub record Wrote (old new : State) (before after : Summary) (r : Request) (d : Deed) : Type 0 where
+pub record WroteRows (old new : State) (before : Summary) (r : Request) (d : Deed) : Type 0 where
   pub shown : Shows old new new.now old.committed true
   pub made : (h : History) → IsLegalWith before h → verdict h r ≡ New d → HoldsRows newest old.now h → HoldsRows newest new.now (with_deed h d)
+
+-- and the summary is that after the deed
+pub record Wrote (old new : State) (before after : Summary) (r : Request) (d : Deed) : Type 0 where
+  pub rows : WroteRows old new before r d
   pub carried : (h : History) → IsLegalWith before h → verdict h r ≡ New d → IsSummaryOf (with_deed h d) after
 
 -- the answer to a request that is accepted and new
@@ -54,6 +58,10 @@ pub record IsAnswerOf (h : History) (r : Request) (it : Answer) (after : Summary
 pub record Answered (old new : State) (before after : Summary) (r : Request) (it : Answer) : Type 0 where
   pub shown : GoesOn old new
   pub of_history : (h : History) → IsLegalWith before h → HoldsRows newest old.now h → IsAnswerOf h r it after new.now
+
+-- the transaction shows the rows after the request, and nothing is committed
+abbrev pub ShowsAfter : State → State → Summary → Request → Type 0
+ShowsAfter old new before r = GoesOn old new × ((h : History) → IsLegalWith before h → HoldsRows newest old.now h → HoldsRows newest new.now (after_one h r))
 
 -- The witness is not asked, or about a request that is new to each history whose rows the transaction showed. This holds then of
 -- its deed.

@@ -15,7 +15,7 @@ ghost use Rattle.registry_tables.specs.Calls.{KeepsAll};
 ghost use Rattle.registry_tables.specs.Finds.{Finds, ReadsHistoryOpen};
 ghost use Rattle.registry_tables.specs.Rows.{HoldsRows, newest};
 ghost use Rattle.registry_store.specs.Promise.{IsLegalWith, IsAt};
-ghost use Rattle.registry_store.specs.Attempt.{AddsNoDeed, Answered, AsksIfNew, CommitsOne, IfNew, Wrote, new_answer};
+ghost use Rattle.registry_store.specs.Attempt.{AddsNoDeed, Answered, AsksIfNew, CommitsOne, IfNew, ShowsAfter, Wrote, WroteRows, new_answer};
 ghost use Rattle.registry_store.specs.Witness.{Hears, WasSeen};
 
 use crate::witness::Witness;
@@ -86,9 +86,9 @@ fn write<S: Alter, W: Witness>(
         → OnOk result (GoesOn (state S.Store tx.old.conn.now) (state S.Store tx.new.conn.now)) }
     ensures unseen { IfOk result (λ it. OnErr it (summary.new ≡ summary.old)) }
     ensures heard { Hears W.saw W.missed witness.old witness.new request.now (act_text deed.now.act) result }
-    // A witness that was asked could see the rows.
+    // The rows are written once the witness is asked.
     ensures late { HasCleanDisk (state S.Store tx.new.conn.now) → IsTrue (state S.Store tx.old.conn.now).in_transaction → IsTrue (state S.Store tx.old.conn.now).is_open
-        → OnErr result ((witness.new ≡ witness.old) ⊎ GoesOn (state S.Store tx.old.conn.now) (state S.Store tx.new.conn.now)) }
+        → (witness.new ≡ witness.old) ⊎ WroteRows (state S.Store tx.old.conn.now) (state S.Store tx.new.conn.now) summary.old request.now deed.now }
     ensures kind { result ≢ Err TableFault.Foreign }
     ensures survives { CommitsNothing (state S.Store tx.old.conn.now) (state S.Store tx.new.conn.now) }
 {
@@ -131,6 +131,9 @@ fn accept<S: Alter, W: Witness>(
         → OnOk result (GoesOn (state S.Store tx.old.conn.now) (state S.Store tx.new.conn.now)) }
     ensures unseen { IfOk result (λ it. OnErr it (summary.new ≡ summary.old)) }
     ensures heard { Hears W.saw W.missed witness.old witness.new request.now (act_text deed.now.act) result }
+    // The rows are written once the witness is asked.
+    ensures late { HasCleanDisk (state S.Store tx.new.conn.now) → IsTrue (state S.Store tx.old.conn.now).in_transaction → IsTrue (state S.Store tx.old.conn.now).is_open
+        → (witness.new ≡ witness.old) ⊎ WroteRows (state S.Store tx.old.conn.now) (state S.Store tx.new.conn.now) summary.old request.now deed.now }
     ensures answer { IfOk result (λ it. IfOk it (λ answer. answer ≡ new_answer deed.now)) }
     ensures kind { result ≢ Err TableFault.Foreign }
     ensures survives { CommitsNothing (state S.Store tx.old.conn.now) (state S.Store tx.new.conn.now) }
@@ -166,6 +169,8 @@ fn act_on<S: Alter, W: Witness>(
     ensures seen { IfOk result (λ it. IfOk it (IfNew (WasSeen W.saw witness.old witness.new request.now))) }
     ensures asked { HasCleanDisk (state S.Store tx.new.conn.now) → IsTrue (state S.Store tx.old.conn.now).in_transaction
         → AsksIfNew witness.old witness.new (state S.Store tx.old.conn.now) summary.old request.now (λ deed. Hears W.saw W.missed witness.old witness.new request.now (act_text deed.act) result) }
+    ensures late { HasCleanDisk (state S.Store tx.new.conn.now) → IsTrue (state S.Store tx.old.conn.now).in_transaction
+        → (witness.new ≡ witness.old) ⊎ ShowsAfter (state S.Store tx.old.conn.now) (state S.Store tx.new.conn.now) summary.old request.now }
     ensures foreign { HasCleanDisk (state S.Store tx.new.conn.now) → IsTrue (state S.Store tx.old.conn.now).in_transaction
         → result ≡ Err TableFault.Foreign → IsTrue (state S.Store tx.old.conn.now).is_open × ((h : History) → Legal h → ¬ HoldsRows newest (state S.Store tx.old.conn.now).now h) }
     ensures survives { CommitsNothing (state S.Store tx.old.conn.now) (state S.Store tx.new.conn.now) }

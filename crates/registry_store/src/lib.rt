@@ -5,11 +5,11 @@
 //!
 //! # Acting on requests
 //!
-//! `act` acts on one request. Its reply is the history's, one commit holds all, and at every return
-//! a crash leaves the tables before the request or after it. A repeat and a refused request commit
-//! nothing (`no_deed`), and neither does a run of such requests alone; `apply` and `import` say the
-//! same (`IsRun`, `IsActedOn`). After a fault a registry that was not poisoned is poisoned by that
-//! fault, which it keeps (`poisoned_by`, `KeepsFault`).
+//! `act` acts on one request. Its reply is the history's, and at every return a crash leaves the
+//! tables before the request or after it. It makes one commit; no clause counts commits. A repeat
+//! and a refused request commit nothing (`no_deed`), and neither does a run of such requests alone;
+//! `apply` and `import` say the same (`IsRun`, `IsActedOn`). After a fault a registry that was not
+//! poisoned is poisoned by that fault, which it keeps (`poisoned_by`, `KeepsFault`).
 //!
 //! `run_to` is the one loop of a run: it hands each reply over before it acts on the next request,
 //! and `apply_lines` runs it over its output. Its clauses are about the requests after the answered

@@ -3,7 +3,7 @@ use Rattle.sqlite.specs.State.{HasCleanDisk}
 use Rattle.sqlite.specs.Held.{state}
 use Rattle.registry_rules.specs.Run.{reply_of}
 use Rattle.registry_rules.specs.declared.verdict.Reply.TheVariants.{Done}
-use Rattle.registry_store.proofs.TransactionLemmas.{accepts, answers_quiet, asks_if_new, goes_on_then, misses, quiet_then, sees}
+use Rattle.registry_store.proofs.TransactionLemmas.{accepts, answers_quiet, asks_if_new, asks_late, goes_on_then, misses, quiet_then, sees}
 use Rattle.registry_store.proofs.attempt.act_on.Goals as goal
 
 pub returns-in-Kept-clause-ok : goal.returns-in-Kept-clause-ok
@@ -38,6 +38,14 @@ returns-in-New-clause-asked g c clean inside =
     let early : HasCleanDisk (state g.S.Store mid) = omega (arith, clean, c.accept.ensures.survives.clean) in
     asks_if_new (state g.S.Store c.args.tx.now.conn.now) (state g.S.Store mid) c.args.summary.now c.args.request.now _ (c.in_ok-text.ensures.found early inside)
     _ _ _ c.in-New.deed c.in-New.is c.accept.ensures.heard
+
+pub returns-in-New-clause-late : goal.returns-in-New-clause-late
+returns-in-New-clause-late g c clean inside =
+    let mid = c.judged.new.tx.conn.now in
+    let early : HasCleanDisk (state g.S.Store mid) = omega (arith, clean, c.accept.ensures.survives.clean) in
+    let found = c.in_ok-text.ensures.found early inside in
+    asks_late (state g.S.Store c.args.tx.now.conn.now) (state g.S.Store mid) c.args.summary.now c.args.request.now _ found c.args.witness.now c.accept.new.witness (state g.S.Store c.accept.new.tx.conn.now)
+    c.in-New.deed c.in-New.is (c.accept.ensures.late clean found.0.mode found.0.is_open)
 
 pub returns-in-New-clause-foreign : goal.returns-in-New-clause-foreign
 returns-in-New-clause-foreign g c clean inside foreign = absurd (c.accept.ensures.kind foreign)
