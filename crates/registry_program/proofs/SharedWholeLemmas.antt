@@ -63,7 +63,7 @@ module _ {S : Type 0} {g : Ghosts S} {L : Type 0} (l : log.Ghosts L) (lines : L 
   left_over c h stops.NoMemory it = following_over h None it
 
   unserved_over : (c : Cursor L) (h : History) (bytes : List ℕ) (stop : ShareStop) → IsUnserved l lines c it_new c_new h bytes stop → LeavesOver (fault_of_stop stop) h
-  unserved_over c h bytes stop it = elim it [ inl left ↦ left_over c h stop left | inr failed ↦ following_over h (fault_of_stop stop) failed.2 ]
+  unserved_over c h bytes stop it = elim it [ inl left ↦ left_over c h stop left.0 | inr failed ↦ following_over h (fault_of_stop stop) (failed.2.now, failed.2.leads, failed.2.follows) ]
 
   ends_over : (c : Cursor L) (h : History) (visits : List Visit) (stop : Option ShareStop) → EndsOver l lines c it_new c_new h visits stop → LeavesOver (fault_behind_stop stop) h
   ends_over c h visits None it = following_over h None (it.0, turns_lead l lines c h visits c_new it.0 it.1, it.2)

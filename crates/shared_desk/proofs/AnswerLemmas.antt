@@ -61,7 +61,7 @@ module _ {S : Type 0} {g : Ghosts S} {L : Type 0} (l : LogGhosts L) (lines : L �
       → IsUntouched mid new → IsQueryResponse followed.now query response → cache_new ≡ with_text cache query None → Answers l lines c new c_new h (Ok (messages.Query query)) response cache_new
   query_answered mid new c_new query response cache cache_new followed of left is taken = record {
     next = followed.now;
-    answer = record { before = followed.now; leads = followed.leads; whole = λ asked. followed.whole; response_is = is; next_is = refl };
+    answer = record { before = followed.now; leads = followed.leads; whole = λ asked. followed.whole; unasked = λ refused. absurd cc; response_is = is; next_is = refl };
     follows = still_follows l lines mid c_new new c_new followed.now followed.follows (left.stays followed.now followed.follows.represents) (grows_none (lines c_new.log)) refl;
     texts = cache;
     texts_of = of;
@@ -70,8 +70,10 @@ module _ {S : Type 0} {g : Ghosts S} {L : Type 0} (l : LogGhosts L) (lines : L �
 
   -- the store failed at a query, or memory ran out
   pub query_unanswered : (mid new : Registry S g) (c_new : Cursor L) (fault : DeskFault) → HasFollowed l lines c mid c_new h → IsUntouched mid new → IsOfQuery fault → (query : Query) → IsUnanswered l lines c new c_new h (Ok (messages.Query query)) (stop_of fault)
-  query_unanswered mid new c_new fault followed left (inl memory) query = rw memory (inl (followed.now, followed.leads, still_follows l lines mid c_new new c_new followed.now followed.follows (left.stays followed.now followed.follows.represents) (grows_none (lines c_new.log)) refl))
-  query_unanswered mid new c_new fault followed left (inr store) query = rw store (inr (query, refl, (followed.now, followed.leads, still_follows l lines mid c_new new c_new followed.now followed.follows (left.stays followed.now followed.follows.represents) (grows_none (lines c_new.log)) refl), refl))
+  query_unanswered mid new c_new fault followed left (inl memory) query = rw memory (inl ((followed.now, followed.leads, still_follows l lines mid c_new new c_new followed.now followed.follows (left.stays followed.now followed.follows.represents) (grows_none (lines c_new.log)) refl), inl refl))
+  query_unanswered mid new c_new fault followed left (inr store) query =
+      let follows = still_follows l lines mid c_new new c_new followed.now followed.follows (left.stays followed.now followed.follows.represents) (grows_none (lines c_new.log)) refl in
+      rw store (inr (query, refl, record { now = followed.now; leads = followed.leads; follows = follows; whole = followed.whole }, refl))
 
   -- ---- orders
 
@@ -80,7 +82,7 @@ module _ {S : Type 0} {g : Ghosts S} {L : Type 0} (l : LogGhosts L) (lines : L �
       → c.next ≡ length (record_of h) → AreTextsOf h cache → cache_new ≡ (if nat_eq c_new.next c.next then cache else no_texts) → Answers l lines c new c_new h (Ok (messages.Request r)) response cache_new
   order_answered new c_new r reply response cache cache_new it is at_h of dropped = record {
     next = after_one it.before r;
-    answer = record { before = it.before; leads = it.leads; whole = λ asked. it.whole; response_is = is ∙ ap reply_response it.reply_is; next_is = refl };
+    answer = record { before = it.before; leads = it.leads; whole = λ asked. it.whole; unasked = λ refused. absurd cc; response_is = is ∙ ap reply_response it.reply_is; next_is = refl };
     follows = it.follows;
     texts = cache_new;
     texts_of = texts_before h it.before r cache cache_new c_new.next c.next dropped at_h it.follows.next it.leads of;
@@ -96,7 +98,7 @@ module _ {S : Type 0} {g : Ghosts S} {L : Type 0} (l : LogGhosts L) (lines : L �
   pub refused_answered : (it : Registry S g) (refusal : HttpRefusal) (response : Response) (cache : Cache) → Follows l lines it c h → AreTextsOf h cache → response ≡ refusal_response refusal → Answers l lines c it c h (Err refusal) response cache
   refused_answered it refusal response cache follows of is = record {
     next = h;
-    answer = record { before = h; leads = leads_nowhere h; whole = λ asked. absurd cc; response_is = is; next_is = refl };
+    answer = record { before = h; leads = leads_nowhere h; whole = λ asked. absurd cc; unasked = λ refused. refl; response_is = is; next_is = refl };
     follows = follows;
     texts = cache;
     texts_of = of;

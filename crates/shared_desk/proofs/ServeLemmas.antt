@@ -95,7 +95,9 @@ module _ {S : Type 0} {g : Ghosts S} {L : Type 0} (l : LogGhosts L) (lines : L �
       texts_after (Unit {0}) before bytes it.texts mid cache (Ok wanted) said it.beside after here it.texts_of (it.answer.response_is, tt) it.next (inr (said, here, it.answer.next_is, λ other. absurd (other refl)))
 
   unserved : (bytes : List ℕ) (said : Result Message HttpRefusal) (stop : ShareStop) → Says h.founding.vendor bytes said → IsUnanswered l lines c new c_new h said stop → IsUnserved l lines c new c_new h bytes stop
-  unserved bytes said stop says (inl it) = inl it
+  unserved bytes said stop says (inl (left, inl memory)) = inl (left, inl memory)
+  unserved bytes (Ok message) stop says (inl (left, inr ok)) = inl (left, inr (message, says))
+  unserved bytes (Err refusal) stop says (inl (left, inr ok)) = absurd (cc ok)
   unserved bytes said stop says (inr it) = inr (it.0, rw it.1 at says, it.2, it.3)
 
   -- the message was read, and this came of it

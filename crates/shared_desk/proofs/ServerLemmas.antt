@@ -111,10 +111,10 @@ module _ {S : Type 0} {g : Ghosts S} {L : Type 0} (l : LogGhosts L) (lines : L �
   unanswered : (bytes : List ℕ) (response : Response) (served : Served) (cache : Cache) (stop : ShareStop) → IfOk served.status (λ sent. sent ≡ response.status) → response ≡ unavailable_response (unavailable_for stop) → cache ≡ no_texts
       → IsUnserved l lines c new c_new h bytes stop → EndsBeside l lines c new c_new h (served_as bytes response served) cache (ends_by (Some stop))
   unanswered bytes response served cache (stops.Log fault) sent told none (inl it) =
-      passed bytes response served cache (stops.Log fault) none (stop_told bytes response served (stops.Log fault) sent told) refl it.0 (λ other same. let is : fault ≡ other = cc in subst (HasFailed l lines c.log c_new.log) is it.1)
+      passed bytes response served cache (stops.Log fault) none (stop_told bytes response served (stops.Log fault) sent told) refl it.0.0 (λ other same. let is : fault ≡ other = cc in subst (HasFailed l lines c.log c_new.log) is it.0.1)
   unanswered bytes response served cache (stops.Log fault) sent told none (inr it) = let never : stops.Log fault ≡ stops.Registry faults.Store = it.3 in absurd cc
   unanswered bytes response served cache stops.NoMemory sent told none (inl it) =
-      passed bytes response served cache stops.NoMemory none (stop_told bytes response served stops.NoMemory sent told) refl it (λ other never. absurd cc)
+      passed bytes response served cache stops.NoMemory none (stop_told bytes response served stops.NoMemory sent told) refl it.0 (λ other never. absurd cc)
   unanswered bytes response served cache stops.NoMemory sent told none (inr it) = let never : stops.NoMemory ≡ stops.Registry faults.Store = it.3 in absurd cc
   unanswered bytes response served cache (stops.Registry fault) sent told none it = it
   unanswered bytes response served cache (stops.OtherRecord n) sent told none it = it

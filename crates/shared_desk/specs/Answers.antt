@@ -2,7 +2,7 @@
 --
 -- `lines` is what the log keeps. `c` and `c_new` are the places in it before the message and after it, and h is the history that
 -- the registry followed the log with.
-use Rattle.std.specs.Prelude.{◌≡◌, ◌⊎◌, Result, Ok, IsOk}
+use Rattle.std.specs.Prelude.{◌≡◌, ◌⊎◌, Result, Ok, IsErr, IsOk}
 use Rattle.sqlite.specs.Store.{Ghosts}
 use Rattle.registry_rules.specs.History.{History}
 use Rattle.registry_laws.specs.Machines.{LeadsToLater}
@@ -18,18 +18,19 @@ use Rattle.registry_desk.specs.Cache.{AreTextsOf, cache_beside}
 use Rattle.registry_desk.specs.declared.cache.Cache.{Cache}
 use Rattle.shared_log.specs.Calls.{LogLines}
 use Rattle.shared_log.specs.declared.log.Log.{Ghosts as LogGhosts}
-use Rattle.shared_registry.specs.Follows.{Follows, FollowsLater, IsLeft, WasWhole}
+use Rattle.shared_registry.specs.Follows.{Follows, HasFollowed, IsLeft, WasWhole}
 use Rattle.shared_registry.specs.declared.cursor.Cursor.{Cursor}
 use Rattle.shared_registry.specs.declared.stop.ShareStop.{ShareStop}
 use Rattle.shared_registry.specs.declared.stop.ShareStop.TheVariants as stops
 
 module _ {L : Type 0} (lines : L → LogLines) (c c_new : Cursor L) (h : History) where
   -- The response is that of a history which was the whole log at some instant of the call, and the next history is the one after the
-  -- message. A message that is refused by itself is not asked of the log.
+  -- message. The log is not asked for a message that is refused by itself.
   pub record IsAnswerOver (said : Result Message HttpRefusal) (response : Response) (next : History) : Type 0 where
     pub before : History
     pub leads : LeadsToLater h before
     pub whole : IsOk said → WasWhole (lines c.log) (lines c_new.log) before
+    pub unasked : IsErr said → c_new ≡ c
     pub response_is : IsResponse before said response
     pub next_is : next ≡ after_message before said
 
@@ -44,6 +45,7 @@ module _ {S : Type 0} {g : Ghosts S} {L : Type 0} (l : LogGhosts L) (lines : L �
     pub texts_of : AreTextsOf answer.before texts
     pub beside : cache ≡ cache_beside texts said
 
-  -- Why a message got no response of its own, and what is left. The store may fail at a query, which leaves the registry as it was.
+  -- Why a message got no response of its own, and what is left: memory ran out, or it is no message that is refused by itself. The
+  -- store may fail at a query once the whole log was acted on, which leaves the registry as it was then.
   abbrev pub IsUnanswered : Result Message HttpRefusal → ShareStop → Type 0
-  IsUnanswered said stop = IsLeft l lines c it_new c_new h stop ⊎ ((query : Query) × (said ≡ Ok (messages.Query query)) × FollowsLater l lines it_new c_new h × (stop ≡ stops.Registry faults.Store))
+  IsUnanswered said stop = (IsLeft l lines c it_new c_new h stop × ((stop ≡ stops.NoMemory) ⊎ IsOk said)) ⊎ ((query : Query) × (said ≡ Ok (messages.Query query)) × HasFollowed l lines c it_new c_new h × (stop ≡ stops.Registry faults.Store))

@@ -24,7 +24,7 @@ use Rattle.shared_registry.specs.declared.cursor.Cursor.{Cursor}
 use Rattle.shared_registry.specs.declared.stop.ShareStop.{ShareStop}
 use Rattle.shared_registry.specs.declared.stop.ShareStop.TheVariants as stops
 use Rattle.shared_desk.specs.declared.serve.Turn.{Turn}
-use Rattle.shared_registry.specs.Follows.{Follows, FollowsLater, IsLeft}
+use Rattle.shared_registry.specs.Follows.{Follows, HasFollowed, IsLeft}
 use Rattle.shared_desk.specs.Answers.{IsAnswerOver}
 use Rattle.shared_desk.specs.Refusals.{unavailable_for}
 
@@ -73,10 +73,10 @@ module _ {S : Type 0} {g : Ghosts S} {L : Type 0} (l : LogGhosts L) (lines : L �
     pub follows : Follows l lines it_new c_new next
     pub texts : AreTextsOf next cache
 
-  -- why the message in these bytes got no response of its own, and what is left
+  -- why the message in these bytes got no response of its own, and what is left: memory ran out, or they are an order or a query
   abbrev pub IsUnserved : List ℕ → ShareStop → Type 0
-  IsUnserved bytes stop = IsLeft l lines c it_new c_new h stop
-      ⊎ ((query : Query) × Says h.founding.vendor bytes (Ok (messages.Query query)) × FollowsLater l lines it_new c_new h × (stop ≡ stops.Registry faults.Store))
+  IsUnserved bytes stop = (IsLeft l lines c it_new c_new h stop × ((stop ≡ stops.NoMemory) ⊎ ((message : Message) × Says h.founding.vendor bytes (Ok message))))
+      ⊎ ((query : Query) × Says h.founding.vendor bytes (Ok (messages.Query query)) × HasFollowed l lines c it_new c_new h × (stop ≡ stops.Registry faults.Store))
 
   -- one message, with the texts that are cached after it
   abbrev pub IsServedBeside : List ℕ → Response → Cache → Option ShareStop → Type 0

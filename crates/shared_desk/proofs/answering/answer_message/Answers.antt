@@ -1,4 +1,4 @@
-use Rattle.std.proofs.Common.{ap, inl}
+use Rattle.std.proofs.Common.{ap, inl, inr, refl}
 use Rattle.std.specs.Prelude.{Ok}
 use Rattle.std.proofs.lemmas.Result.{IfErr-weaker}
 use Rattle.shared_registry.specs.Asks.{AppendsRequest}
@@ -16,7 +16,7 @@ pub returns-in-Request-clause-ok : goal.returns-in-Request-clause-ok
 returns-in-Request-clause-ok g c lines kept h follows clean of = rw c.in-Request.is (c.act_on_order.ensures.ok lines kept h follows clean of)
 
 pub returns-in-Request-clause-err : goal.returns-in-Request-clause-err
-returns-in-Request-clause-err g c lines kept h follows clean = IfErr-weaker c.act_on_order.result _ _ (λ stop left. inl left) (c.act_on_order.ensures.err lines kept h follows clean)
+returns-in-Request-clause-err g c lines kept h follows clean = IfErr-weaker c.act_on_order.result _ _ (λ stop left. inl (left, inr refl)) (c.act_on_order.ensures.err lines kept h follows clean)
 
 pub returns-in-Query-clause-asks : goal.returns-in-Query-clause-asks
 returns-in-Query-clause-asks g c lines kept h follows clean = asked_anyway g.L.Log (AppendsOrder (lines c.answer_after_following.new.cursor.log) h (Ok c.args.message.now)) c.args.cursor.now.log c.answer_after_following.new.cursor.log c.answer_after_following.ensures.asks

@@ -65,7 +65,7 @@ returns-in-Err-NoMemory-clause-served g c =
         c.give_up.ensures.sent,
         c.give_up.ensures.fault,
         refl,
-        λ lines kept h follows clean of. (inl (h, leads_nowhere h, follows), c.clear.ensures),
+        λ lines kept h follows clean of. (inl ((h, leads_nowhere h, follows), inl refl), c.clear.ensures),
         λ poisoned. (inr refl, refl, refl),
         λ lines kept h follows clean. asked_nothing g.L.Log (AppendsOrderIn (lines c.args.cursor.now.log) h all.0) c.args.cursor.now.log,
       ),
