@@ -181,7 +181,9 @@ def main():
         empty = members.address(0, "none")
         fails([usbreg, "serve", stores[0], "--port", str(free_port()), "--log", empty, "--verbose"], 1, f"fault: log\nusbreg: {empty}: has fewer lines than the record of the store\n")
         nobody = f"http://{HOST}:{free_port()}/{NAME}"
-        fails([usbreg, "share", other, "--log", nobody, "--verbose"], 1, f"fault: log\nusbreg: {nobody}: takes no connection\n")
+        # (what a service says is kept in a journal, so it leaves out a user's name and password)
+        for said in (nobody, nobody.replace("//", "//reg:se@cret@")):
+            fails([usbreg, "share", other, "--log", said, "--verbose"], 1, f"fault: log\nusbreg: {nobody}: takes no connection\n")
         hint = "usbreg: the address of a log is http://HOST:PORT/NAME, where NAME is a slug\n"
         fails([usbreg, "share", other, "--log", f"{HOST}/{NAME}", "--verbose"], 2, f"bad word: log\n{hint}")
     print(f"{CLIENTS * ORDERS + 3} orders at two machines over one log, and 3 by commands")

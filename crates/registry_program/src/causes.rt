@@ -102,6 +102,21 @@ fn log_of<'a>(command: Command<&'a str>) -> &'a str {
     }
 }
 
+/// Returns the address of a log as it is shown: without the name and the password of a user, since what
+/// a service says of a failure is kept in a journal.
+fn shown_address(alloc: Global, address: &str) -> Result<String, NoMemory> {
+    let (scheme, rest) = address.split_once("://").unwrap_or(("", address));
+    let place = match rest.split_once('/') {
+        Some((place, _)) => place,
+        None => rest,
+    };
+    let Some((user, _)) = place.rsplit_once('@') else {
+        return Ok(String::from_str(alloc, address)?);
+    };
+    let shown = rest.strip_prefix(user).unwrap_or(rest);
+    Ok(format!(in alloc; "{scheme}://{}", shown.strip_prefix('@').unwrap_or(shown))?)
+}
+
 /// Returns a path as it is shown: an empty one in quotes.
 fn shown_path<'a>(path: &'a str) -> &'a str {
     if path.is_empty() { "\"\"" } else { path }
@@ -116,7 +131,7 @@ fn subject_of(alloc: Global, command: Command<&str>, about: About) -> Result<Str
         )?),
         About::Input => Ok(String::from_str(alloc, shown_path(input_of(command)))?),
         About::Output => Ok(String::from_str(alloc, "standard output")?),
-        About::Log => Ok(String::from_str(alloc, log_of(command))?),
+        About::Log => shown_address(alloc, log_of(command)),
         About::Port => match command {
             Command::Serve { port, .. } | Command::ServeShared { port, .. } => Ok(format!(in alloc;
                 "port {port}"
