@@ -197,9 +197,9 @@ impl<'a, S: Start> Host for Machine<'a, S> {
 
     ghost misses = { λ _ _ _ _ _. ⊤ };
 
-    ghost reads = { λ _ _ _ _. ⊤ };
+    ghost reads = { λ _ _ _ _ _. ⊤ };
 
-    ghost lacks = { λ _ _ _ _. ⊤ };
+    ghost lacks = { λ _ _ _ _ _. ⊤ };
 
     ghost listens = { λ _ _ _. ⊤ };
 

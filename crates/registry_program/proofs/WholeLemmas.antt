@@ -10,7 +10,7 @@ use Rattle.sqlite.specs.Held.{Held}
 use Rattle.sqlite.specs.State.{HasCleanDisk}
 use Rattle.byte_streams.specs.declared.streams.Sink as sink
 use Rattle.byte_streams.specs.declared.streams.Source as source
-use Rattle.byte_streams.specs.Streams.{MayGive}
+use Rattle.byte_streams.specs.Streams.{MayGive, most_bytes}
 use Rattle.usbids_text.specs.Moments.{Moment}
 use Rattle.registry_rules.specs.Accepted.{AreValid}
 use Rattle.registry_rules.specs.History.{History, founded}
@@ -260,7 +260,7 @@ module _ {H F I : Type 0} (m : host.Ghosts H F I) (d : disk.Ghosts F) where
     reports_whole old new path None ends is = is
 
     -- the founding file was read, and the registry was founded on this store
-    founded_on : (old new : H) (path founding : List ℕ) (read : H) (input : I) (bytes : List ℕ) (origin : Founding) (ends : Ends) → m.reads old read founding input → MayGive (s.remaining input) bytes
+    founded_on : (old new : H) (path founding : List ℕ) (read : H) (input : I) (bytes : List ℕ) (origin : Founding) (ends : Ends) → m.reads old read founding most_bytes input → MayGive (s.remaining input) bytes
         → FoundsAs (Ok origin) (founding_listed bytes) → IsFoundedOn m d origin read new path ends → ends.status ≡ Success → IsFoundedWholly m d s old new path founding
     founded_on old new path founding read input bytes origin ends reads gives founds on well =
         let success : on.before ≡ Success = elim (success_or on.before) [ inl success ↦ success | inr other ↦ absurd (other (sym (on.closes.closed.kept other).0 ∙ well)) ] in

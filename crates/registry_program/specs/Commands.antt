@@ -7,7 +7,7 @@ use Rattle.sqlite.specs.Files.{over_files}
 use Rattle.sqlite.specs.Held.{Held}
 use Rattle.sqlite.specs.Store as store
 use Rattle.byte_streams.specs.declared.streams.Source as source
-use Rattle.byte_streams.specs.Streams.{MayGive}
+use Rattle.byte_streams.specs.Streams.{MayGive, most_bytes}
 use Rattle.usbids_text.specs.declared.seen.Wanted.{Wanted}
 use Rattle.usbids_text.specs.Moments.{Moment, is_moment}
 use Rattle.registry_rules.specs.declared.founding.Founding.{Founding}
@@ -44,10 +44,11 @@ use Rattle.registry_program.specs.Stores.{Closes, IsConnected, IsMissed, IsRunOv
 -- ---- inputs
 
 module _ {H F I : Type 0} (m : host.Ghosts H F I) where
-  -- the file at this path was opened and this was done with its source, or it could not be opened and this is so
+  -- the file at this path, which may have 4,294,967,295 bytes, was opened and this was done with its source, or it could not be
+  -- opened and this is so
   abbrev pub ReadsFrom : H → H → List ℕ → (I → I → Type 0) → (Failure → Type 0) → Type 0
   ReadsFrom old new path Does Fails =
-      ((input : I) × (input_new : I) × m.reads old new path input × Does input input_new) ⊎ ((failure : Failure) × m.lacks old new path failure × Fails failure)
+      ((input : I) × (input_new : I) × m.reads old new path most_bytes input × Does input input_new) ⊎ ((failure : Failure) × m.lacks old new path most_bytes failure × Fails failure)
 
 -- the input of this name is the standard input
 abbrev pub is_standard : List ℕ → Bool

@@ -23,6 +23,10 @@ use Rattle.registry_program.specs.declared.host.Host as host
 use Rattle.registry_program.specs.Outputs.{IsFailure, earlier}
 use Rattle.registry_program.specs.Stores.{Closes, IsConnected, IsMissed, IsRunOver, IsUnconnected, TheRegistry}
 
+-- the most bytes of the file of a record: as many as a file may have
+abbrev pub most_record : ℕ
+most_record = 18446744073709551615
+
 module _ {R : Type 0} (r : source.Ghosts R) where
   -- the lines of the record that were to come were replayed over a registry, and the output took nothing
   abbrev pub ReplaysLines : {H S : Type 0} {g : store.Ghosts S} → R → R → Unread → H → H → Registry S g → Registry S g → Ends → Type 0
@@ -77,5 +81,5 @@ module _ {H F I : Type 0} (m : host.Ghosts H F I) (d : disk.Ghosts F) where
   pub record ReplaysRecord {R : Type 0} (s : source.Ghosts I) (r : source.Ghosts R) (input input_new : R) (old new : H) (path file : List ℕ) (ends : Ends) : Type 0 where
     pub standard : bytes_eq file (codes "-") ≡ true → ReplaysFrom r input input_new old new path ends
     pub named : bytes_eq file (codes "-") ≡ false → (input_new ≡ input)
-        × (((read : H) × (source : I) × (source_new : I) × m.reads old read file source × ReplaysFrom s source source_new read new path ends)
-        ⊎ ((failure : Failure) × m.lacks old new file failure × IsFailure failure ends))
+        × (((read : H) × (source : I) × (source_new : I) × m.reads old read file most_record source × ReplaysFrom s source source_new read new path ends)
+        ⊎ ((failure : Failure) × m.lacks old new file most_record failure × IsFailure failure ends))

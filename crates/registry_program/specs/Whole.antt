@@ -8,7 +8,7 @@ use Rattle.sqlite_disk.specs.declared.Files.{Files}
 use Rattle.sqlite.specs.WalReads.{AreClean}
 use Rattle.byte_streams.specs.declared.streams.Sink as sink
 use Rattle.byte_streams.specs.declared.streams.Source as source
-use Rattle.byte_streams.specs.Streams.{AppendsPrefix, MayGive}
+use Rattle.byte_streams.specs.Streams.{AppendsPrefix, MayGive, most_bytes}
 use Rattle.usbids_text.specs.Documents.{IsTextOf}
 use Rattle.usbids_text.specs.Entries.{TopEntry}
 use Rattle.usbids_text.specs.Moments.{Moment}
@@ -58,7 +58,7 @@ use Rattle.registry_program.specs.DryRuns.{TriesFile}
 use Rattle.registry_program.specs.Checking.{ChecksRows}
 use Rattle.registry_program.specs.Opening.{HoldsNoHistory}
 use Rattle.registry_program.specs.Outputs.{IsFailure, IsRejection}
-use Rattle.registry_program.specs.Replaying.{IsReplayedIn, ReplaysLines}
+use Rattle.registry_program.specs.Replaying.{IsReplayedIn, ReplaysLines, most_record}
 use Rattle.registry_program.specs.Serving.{ServesOn}
 use Rattle.registry_program.specs.Stores.{IsMissed, IsRunOver, IsUnconnected, Opens, TheRegistry}
 
@@ -193,7 +193,7 @@ module _ {H F I : Type 0} (m : host.Ghosts H F I) (d : disk.Ghosts F) where
       pub reading : H
       pub read : H
       pub input : I
-      pub reads : m.reads reading read path input
+      pub reads : m.reads reading read path most_bytes input
       pub gives : MayGive (s.remaining input) bytes
 
     module _ {R : Type 0} (r : source.Ghosts R) where
@@ -346,5 +346,5 @@ module _ {H F I : Type 0} (m : host.Ghosts H F I) (d : disk.Ghosts F) where
 abbrev pub ReplaysWholly : {H F I R : Type 0} → host.Ghosts H F I → disk.Ghosts F → source.Ghosts I → source.Ghosts R → R → H → H → List ℕ → List ℕ → Ends → Type 0
 ReplaysWholly {H} {F} {I} m d s r input old new path file ends =
     (bytes_eq file (codes "-") ≡ true → ReplaysWhollyFrom m d r input old new path ends)
-    × (bytes_eq file (codes "-") ≡ false → ((read : H) × (source : I) × m.reads old read file source × ReplaysWhollyFrom m d s source read new path ends)
-    ⊎ ((failure : Failure) × m.lacks old new file failure × IsFailure failure ends))
+    × (bytes_eq file (codes "-") ≡ false → ((read : H) × (source : I) × m.reads old read file most_record source × ReplaysWhollyFrom m d s source read new path ends)
+    ⊎ ((failure : Failure) × m.lacks old new file most_record failure × IsFailure failure ends))

@@ -57,11 +57,11 @@ pub trait Host {
     /// They could not be opened.
     ghost misses: { Self → Self → List ℕ → Bool → Failure → Type 0 };
 
-    /// The file at a path was opened, to be read.
-    ghost reads: { Self → Self → List ℕ → Self.Input → Type 0 };
+    /// The file at a path was opened, to be read, which may have so many bytes.
+    ghost reads: { Self → Self → List ℕ → ℕ → Self.Input → Type 0 };
 
-    /// It could not be opened.
-    ghost lacks: { Self → Self → List ℕ → Failure → Type 0 };
+    /// It could not be opened, or is known to have more.
+    ghost lacks: { Self → Self → List ℕ → ℕ → Failure → Type 0 };
 
     /// Connections to a port now come to this machine.
     ghost listens: { Self → Self → ℕ → Type 0 };
@@ -97,8 +97,8 @@ pub trait Host {
     ///
     /// `File` if that fails.
     fn open_input(&mut self, path: &str, most: u64) -> Result<Self::Input, Failure>
-        ensures opened { IfOk result (λ source. reads self.old self.new path.now source) }
-        ensures missed { IfErr result (λ failure. lacks self.old self.new path.now failure) }
+        ensures opened { IfOk result (λ source. reads self.old self.new path.now most source) }
+        ensures missed { IfErr result (λ failure. lacks self.old self.new path.now most failure) }
         ensures kind { IfErr result (λ failure. failure ≡ Failure.File) };
 
     /// Listens on a port of this machine, which no other machine can reach.

@@ -78,9 +78,9 @@ impl<'a> Host for Room<'a> {
 
     ghost misses = { λ _ _ _ _ _. ⊤ };
 
-    ghost reads = { λ _ _ _ _. ⊤ };
+    ghost reads = { λ _ _ _ _ _. ⊤ };
 
-    ghost lacks = { λ _ _ _ _. ⊤ };
+    ghost lacks = { λ _ _ _ _ _. ⊤ };
 
     ghost listens = { λ _ _ _. ⊤ };
 
