@@ -25,7 +25,7 @@
 //! (`have_one_owner`). An accepted request whose line is in the log is in the history of each of
 //! them that has as many lines (`have_each_request`). If the log takes the line of a machine's next
 //! deed under the next number, the record with that deed begins the log from then on, whatever
-//! others append (`begins_with_appended`). No program shares a log yet.
+//! others append (`begins_with_appended`). `shared_registry` has the calls of such a machine.
 //!
 //! # Lists that are exported and imported
 //!

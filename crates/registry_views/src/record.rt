@@ -74,8 +74,8 @@ fn read_more<S: Alter>(
 /// `after`, oldest first, as many as a page takes. Changes nothing.
 ///
 /// An accepted import may be as long as a page or longer, and the request that no longer fits is
-/// read too. So this reads as few requests at once as [`Page::wanted`] says, and none once the page
-/// is full: beside what it returns it reads at most four requests.
+/// read too. So this is written to read as few requests at once as [`Page::wanted`] says, and none
+/// once the page is full: beside what it returns it reads at most four. No clause counts them.
 ///
 /// # Errors
 ///
