@@ -2,8 +2,8 @@
 """Talks HTTP to `usbreg serve`, as real clients do, and compares the responses to the byte.
 
 Each refusal that docs/requests.md lists with a status is met (`lib/desk_refusals.py`). A client of its own sends each byte
-alone, sends half of a message and closes, sends nothing, sends a message and more after it, sends 5 MB that are refused
-unread, and makes 200 connections one after another. A port that is taken, a count of connections, a store that is already
+alone, sends half of a message and closes, sends nothing, stops reading, sends a message and more after it, sends 5 MB that are
+refused unread, and makes 200 connections one after another. A port that is taken, a count of connections, a store that is already
 open and a file that can grow no more end the program as docs/requests.md says. A record that begins with the founding's line
 can be replayed, the head is that of the record, and the list and the reports are those after the orders so far. The script also kills the program as
 `kill -9` does, in the middle of commands: each command whose response came was acted on, at most one more was, and in the
@@ -17,6 +17,7 @@ import json
 import resource
 import shutil
 import signal
+import socket
 import sys
 import threading
 import time
@@ -24,7 +25,7 @@ import time
 from lib.desk_orders import ENROL, ENROLLED, LINK, ask, asked
 from lib.desk_refusals import TIME, Desk, each_refusal, fields
 from lib.plain_history import History
-from lib.serving import TEXT, command, connected, done, exchange, free_port, get, message, post, read_to_end, refused, response, serving
+from lib.serving import HOST, TEXT, command, connected, done, exchange, free_port, get, message, post, read_to_end, refused, response, serving
 from lib.stopping import stopped
 from lib.terminal import through_terminal
 from lib.usbreg import FOUNDING, REPORTS, apply, done as printed, folder, found, program, rounds, run, same, tables, write, write_requests
@@ -68,6 +69,23 @@ def silent(port):
         if not 9 < time.monotonic() - began < 13:
             sys.exit(f"a peer that stops was let go after {time.monotonic() - began:.1f} seconds")
     same("after peers that stopped", exchange(port, get("/orgs/acme")), refused(4))
+
+
+def unread(usbreg, room):
+    """Checks that a client that stops reading a list of 6 MB is let go, and that the next one is served then. Less may fit
+    into the buffers of the system."""
+    with serving(usbreg, found(usbreg, f"{room}/unread.db")).up() as server, socket.socket() as client:
+        same("an organisation", exchange(server.port, command(ENROL)), ENROLLED)
+        for first in range(0x2000, 0xA000, 0x2000):
+            lines = b"1209  x\n" + b"".join(b"\t%04x  %s\n" % (it, b"x" * 180) for it in range(first, first + 0x2000))
+            same("an import", exchange(server.port, post("cora", f"l{first}", lines, "/imports/acme"))[:15], b"HTTP/1.1 200 OK")
+        client.setsockopt(socket.SOL_SOCKET, socket.SO_RCVBUF, 4096)
+        client.connect((HOST, server.port))
+        client.sendall(get("/list"))
+        began = time.monotonic()
+        same("after a client that stops reading", exchange(server.port, get("/orgs/other")), refused(4))
+        if not 9 < time.monotonic() - began < 55:
+            sys.exit(f"a client that stops reading was let go after {time.monotonic() - began:.1f} seconds")
 
 
 def early(desk):
@@ -336,6 +354,7 @@ def main():
             print("SKIPPED: curl is not installed, so no message was sent by it")
         print(f"{each_refusal(usbreg, room)} refusals")
         own_client(usbreg, room)
+        unread(usbreg, room)
         first_line(usbreg, room)
         heads(usbreg, room)
         texts(usbreg, room)
