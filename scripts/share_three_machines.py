@@ -78,18 +78,22 @@ class Client(threading.Thread):
     def __init__(self, index, machines, book, ends):
         super().__init__(daemon=True)
         self.name, self.machines, self.book, self.ends = f"maker{index}", machines, book, ends
-        self.count = 0
+        self.own, self.count = None, 0
 
     def run(self):
         while not self.ends.is_set():
             self.count += 1
             org = f"{self.name}-{self.count}"
             if self.order(self.name, {"order": "enrol", "org": org, "title": org, "site": SITE}):
+                self.own = org
                 with self.book.guard:
                     self.book.orgs.append(org)
+            else:
+                # A registry has room for 65,536 organisations. An hour may fill it.
+                self.order(self.name, {"order": "amend-org", "org": self.own, "title": org, "site": SITE})
             self.look()
             number = self.book.number()
-            petition = self.order(self.name, {"order": "ask", "org": org, "number": number, "title": org, "licence": "MIT", "site": SITE, "source": SITE})
+            petition = self.order(self.name, {"order": "ask", "org": self.own, "number": number, "title": org, "licence": "MIT", "site": SITE, "source": SITE})
             if petition:
                 self.order("cora", {"order": "grant", "petition": int(petition.split()[1])})
             self.look()

@@ -27,6 +27,8 @@ ETCD, EARLY = 2379, 2378
 LOG, EARLY_LOG = (f"http://127.0.0.1:{it}/{NAME}" for it in (ETCD, EARLY))
 # The seconds after which a process that ended is started again, and those that a start of all may take.
 PAUSE, PATIENCE = 0.3, 120
+# The seconds in which etcd has to take a machine in the place of another one. It refuses while its members do not hear each other.
+REPLACING = 600
 # A machine passes a message on to its own server, and one that is safe to send again to another machine while that is down.
 NGINX = """
 daemon off;
@@ -262,19 +264,27 @@ class Machine:
             kill(*[self.processes[it] for it in self.down if it in self.processes])
         remove(self.store)
         shutil.rmtree(f"{self.folder}/registry", ignore_errors=True)
-        until = time.monotonic() + PATIENCE
-        while time.monotonic() < until:
-            members = other.etcdctl("member", "list")
-            ids = [line.split(b",")[0].decode() for line in members.stdout.splitlines() if f"https://{self.address}:2380".encode() in line]
-            if members.returncode == 0 and (not ids or other.etcdctl("member", "remove", ids[0]).returncode == 0):
-                if other.etcdctl("member", "add", NAMES[self.index], f"--peer-urls=https://{self.address}:2380").returncode == 0:
-                    break
+        until = time.monotonic() + REPLACING
+        while (refused := self.refused_by(other)) is not None:
+            if time.monotonic() > until:
+                sys.exit(f"FAILED: {self.address} cannot be replaced: {refused}, {other.said()}")
             time.sleep(0.5)
-        else:
-            sys.exit("FAILED: a machine cannot be replaced")
         self.state = "existing"
         with self.guard:
             self.down = set()
+
+    def refused_by(self, other):
+        """Has another machine put a new member into the place of this one in etcd. Returns what etcd said against it, or None."""
+        url = f"https://{self.address}:2380"
+        members = other.etcdctl("member", "list")
+        if members.returncode != 0:
+            return members.stderr
+        ids = [line.split(b",")[0].decode() for line in members.stdout.splitlines() if url.encode() in line]
+        for step in (*(("remove", it) for it in ids), ("add", NAMES[self.index], f"--peer-urls={url}")):
+            ran = other.etcdctl("member", *step)
+            if ran.returncode != 0:
+                return ran.stderr
+        return None
 
 
 class Machines:
