@@ -54,23 +54,6 @@ def groups():
     return [group for group in found if group]
 
 
-def users(members):
-    """Makes a user who may read and write the lines of `reg`, and needs a login from then on."""
-    lines = {"key": in_base64(b"reg/"), "range_end": in_base64(b"reg0"), "permType": "READWRITE"}
-    for path, value in (
-        ("user/add", {"name": "root", "password": "r"}),
-        ("user/grant", {"user": "root", "role": "root"}),
-        ("user/add", {"name": "reg", "password": 'se"cret'}),
-        ("role/add", {"name": "reg"}),
-        ("role/grant", {"name": "reg", "perm": lines}),
-        ("user/grant", {"user": "reg", "role": "reg"}),
-        ("enable", {}),
-    ):
-        status, body = members.post(0, f"/v3/auth/{path}", json.dumps(value))
-        if status != 200:
-            sys.exit(f"FAILED: {path} of etcd: {status} {body}")
-
-
 def compared(members, group):
     """Sends the requests of a group, and returns how many answers are not those of the rows."""
     failed, token = 0, None
@@ -119,7 +102,7 @@ def main():
         with Members(room, 1) as members:
             members.wait(0)
             failed += compared(members, first)
-            users(members)
+            members.ask_for_logins("reg", "reg", 'se"cret')
             failed += compared(members, second)
         count = len(first) + len(second)
     with tempfile.TemporaryDirectory() as room, Members(room, 3) as members:

@@ -3,10 +3,10 @@
 
 Each page of a founded store must have its sum, by the rule of SQLite's extension cksumvfs, also after requests; the page
 that a founding begins with is that of stop_a_founding.py. The other cases: without a founding file no store is made; a
-store without bytes keeps its mode; a leftover of an earlier stop is overwritten; a log that may hold commits is never taken
-for that of a new store, nor lost; a database that is there keeps its page size, and can be renewed by renew_a_store.py; a
-link, a missing folder and the names that SQLite gives another meaning are refused; of several programs that found the same
-store at once one succeeds.
+store without bytes keeps its mode and, for root, its owner and its group; a leftover of an earlier stop is overwritten; a log
+that may hold commits is never taken for that of a new store, nor lost; a database that is there keeps its page size, and can
+be renewed by renew_a_store.py; a link, a missing folder and the names that SQLite gives another meaning are refused; of
+several programs that found the same store at once one succeeds.
 
 Usage: scripts/make_new_stores.py [PROGRAM], by default the one that `make` builds. The exit status is 0 if every case
 passes."""
@@ -67,9 +67,12 @@ def new_stores(cases):
 
     empty = write(f"{cases.room}/empty.db", "")
     os.chmod(empty, 0o640)
+    owners = (65534, 65533) if os.geteuid() == 0 else (os.geteuid(), os.getegid())
+    os.chown(empty, *owners)
     cases.found(empty, DONE)
     cases.sums("a store without bytes", empty)
     cases.holds("the mode of a store without bytes", os.stat(empty).st_mode & 0o777, 0o640)
+    cases.holds("the owner and the group of a store without bytes", (os.stat(empty).st_uid, os.stat(empty).st_gid), owners)
 
     stopped = f"{cases.room}/stopped.db"
     write(f"{stopped}-new", "what a stop left" * 1000)

@@ -10,11 +10,12 @@ constant, goes alone and is judged by the functions that name what it changes. A
 changes a contract, or if the compiler or the borrow checker refuses its form; the others are tried again without it.
 What is not refused beside others is tried again alone.
 
-Usage: scripts/mutants.py [--jobs N] [--edits FOLDER] [NAME | NAME/EDIT ..], by default all of mutants/, or of FOLDER.
+Usage: scripts/mutants.py [--read] [--jobs N] [--edits FOLDER] [NAME | NAME/EDIT ..], by default all of mutants/, or of FOLDER.
 Run `rt ci` on the same files first: the script takes it that each crate is proved as it stands, and checks over the
 libraries that the run left. The first check of a crate proves what its edits leave, unless `rt check` kept that. Each
 later check begins with what the last one kept, and checks the functions of its edits alone. The last line counts the
-edits, and the exit status is 0 if all were refused. With --self-test it tries edits of a small crate that it writes."""
+edits, and the exit status is 0 if all were refused. With --self-test it tries edits of a small crate that it writes. With
+--read it checks nothing, and only looks whether each edit fits the text of its crate, as the gate does."""
 
 import argparse
 import concurrent.futures
@@ -183,18 +184,33 @@ def asked(top, edits, names):
     return found
 
 
+def read(crate, files):
+    """Returns the edits in these files, by name, and by name why each other is bad by its text alone."""
+    good, bad = [], {}
+    for name, file in files.items():
+        try:
+            good.append(Edit(name, file.read_text("utf-8"), crate))
+        except ValueError as why:
+            bad[name] = f"a bad edit: {why}"
+    return good, bad
+
+
+def read_all(top, edits, names):
+    """Reads edits of the crates of a repository. Returns by name why each is bad, or None."""
+    crates, found = crates_of(top), {}
+    for crate, files in asked(top, edits, names).items():
+        found.update(dict.fromkeys(files), **read(crates[crate], files)[1])
+    return found
+
+
 def try_all(top, edits, names, jobs):
     """Tries edits of the crates of a repository. Returns by name why each failed, or None."""
     crates, work = crates_of(top), asked(top, edits, names)
     found, first, later = {}, {}, []
     with tempfile.TemporaryDirectory(prefix="mutants-") as room, concurrent.futures.ThreadPoolExecutor(jobs) as pool:
         for crate in sorted(map(crates.get, work), key=lambda it: -sum(map(len, it.texts.values()))):
-            good = []
-            for name, file in work[crate.name].items():
-                try:
-                    good.append(Edit(name, file.read_text("utf-8"), crate))
-                except ValueError as why:
-                    found[name] = f"a bad edit: {why}"
+            good, bad = read(crate, work[crate.name])
+            found.update(bad)
             kept, crate.kept = crate.kept, f"{room}/{crate.name}"
             if os.path.isdir(kept):
                 shutil.copytree(kept, crate.kept, copy_function=link)
@@ -237,18 +253,20 @@ def main():
     given.add_argument("--jobs", type=int, default=max(1, min(len(os.sched_getaffinity(0)), fit)))
     given.add_argument("--edits", metavar="FOLDER", default=f"{TOP}/mutants")
     given.add_argument("--self-test", action="store_true")
+    given.add_argument("--read", action="store_true")
     given.add_argument("names", nargs="*", metavar="NAME | NAME/EDIT")
     given = given.parse_args()
     if given.self_test:
         return self_test(given.jobs)
-    found = try_all(TOP, given.edits, given.names, given.jobs)
+    found = read_all(TOP, given.edits, given.names) if given.read else try_all(TOP, given.edits, given.names, given.jobs)
     failed = {it: why for it, why in found.items() if why}
     option = "" if given.edits == f"{TOP}/mutants" else f"--edits {given.edits} "
     for name, why in failed.items():
         print(f"FAILED: {name}: {' '.join(why.split())[:300]}; alone: scripts/mutants.py {option}{name}")
-    by_proof = sorted(it for it, why in found.items() if why == "")
-    print("".join(f"{BY_PROOF} alone: {it}\n" for it in by_proof), end="")
-    print(f"{list(found.values()).count(None)} refused by a goal, {len(by_proof)} by their old proofs alone")
+    if not given.read:
+        by_proof = sorted(it for it, why in found.items() if why == "")
+        print("".join(f"{BY_PROOF} alone: {it}\n" for it in by_proof), end="")
+        print(f"{list(found.values()).count(None)} refused by a goal, {len(by_proof)} by their old proofs alone")
     print(f"{len(found) - len(failed)} passed, {len(failed)} failed")
     return 1 if failed else 0
 

@@ -9,7 +9,8 @@ they acknowledge is in the log, a repeat gets its reply, and while etcd stands t
 have the same record as the log, also one that `usbreg replay --log` makes of it, and replaying it again changes nothing.
 
 Further it tries a log without a line, of which no store is made, a store with another record, a store that is ahead of its log, an address where nobody listens and one that is
-none, each with the exit status and the line of its cause, and sharing a record a second time.
+none, each with the exit status and the line of its cause, and sharing a record a second time. At last etcd asks for a name and a
+password: an order is accepted with the right ones alone, and an import of a list that has nothing of its vendor says which one that is.
 
 Usage: scripts/serve_over_a_log.py [PATH/TO/USBREG]. If etcd is not installed, it says that it was skipped. The exit status is 0
 if all is as it should be."""
@@ -26,6 +27,8 @@ from lib.usbreg import FOUNDING, done, folder, program, run, same, write
 
 NAME = "numbers"
 CLIENTS, ORDERS = 8, 12
+# It has what separates the parts of an address.
+PASSWORD = "s:e@cret"
 OTHER = 'vendor = "1209"\nname = "Other products"\ncurators = ["cora"]\nlicences = ["MIT"]\nfixed = ["0001-0010"]\n'
 
 
@@ -145,6 +148,27 @@ def replay_it(usbreg, room, members, record):
     same("the record of a store that was brought up to date", done([usbreg, "history", f"{room}/short.db"]).decode(), record)
 
 
+def with_a_password(usbreg, room, members, stores):
+    """Lets etcd ask for a name and a password, and acts with the right ones, with others and without."""
+    address = members.address(0, NAME)
+    members.ask_for_logins(NAME, "reg", PASSWORD)
+    order = write(f"{room}/last.jsonl", json.dumps(enrol(CLIENTS * ORDERS + 3)[0]) + "\n")
+
+    def apply(user):
+        return [usbreg, "apply", stores[0], order, "--log", address.replace("//", f"//{user}"), "--verbose"]
+
+    refused = "the name or the password is refused"
+    for user, why in (("", "gives an answer that is none of etcd"), ("reg:other@", refused), (f"nobody:{PASSWORD}@", refused)):
+        fails(apply(user), 1, f"fault: log\nusbreg: {address}: {why}\n")
+    same("an order with the password", done(apply(f"reg:{PASSWORD}@")).decode(), f'{{"done":"enrolled org{CLIENTS * ORDERS + 3}"}}\n')
+    log = ["--log", address.replace("//", f"//reg:{PASSWORD}@"), "--verbose"]
+    added = write(f"{room}/vendor.jsonl", '{"caller":"cora","key":"cafe","order":"add-vendor","vendor":"cafe","name":"Cafe"}\n')
+    done([usbreg, "apply", stores[0], added, *log])
+    listed = write(f"{room}/other.ids", "1209  Shared products\n\t2002  Lamp\n")
+    nothing = [usbreg, "import", stores[0], listed, "--caller", "cora", "--key", "nothing", "--org", "org0", "--vendor", "cafe", *log]
+    same("a list of another vendor", run(nothing)[::2], (0, f"usbreg: {listed}: no line of vendor cafe; vendors in the list: 1, devices: 1\n".encode()))
+
+
 def main():
     """Serves two stores."""
     usbreg = program(*sys.argv[1:])
@@ -186,7 +210,8 @@ def main():
             fails([usbreg, "share", other, "--log", said, "--verbose"], 1, f"fault: log\nusbreg: {nobody}: takes no connection\n")
         hint = "usbreg: the address of a log is http://HOST:PORT/NAME, where NAME is a slug\n"
         fails([usbreg, "share", other, "--log", f"{HOST}/{NAME}", "--verbose"], 2, f"bad word: log\n{hint}")
-    print(f"{CLIENTS * ORDERS + 3} orders at two machines over one log, and 3 by commands")
+        with_a_password(usbreg, room, members, stores)
+    print(f"{CLIENTS * ORDERS + 3} orders at two machines over one log, and 6 by commands")
 
 
 if __name__ == "__main__":

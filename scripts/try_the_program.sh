@@ -16,6 +16,7 @@ beside=(
     compare_man_page.py
     compare_doc_examples.py
     index_definitions.py
+    "mutants.py --read"
     test_the_tables.py
     explore_the_log.py
     look_into_a_store.py

@@ -82,6 +82,22 @@ class Members:
         for index in indexes:
             self.processes[index].send_signal(signal.SIGCONT)
 
+    def ask_for_logins(self, log, name, password):
+        """Lets each request need a login from now on, and makes a user who may read and write the lines of this log alone."""
+        lines = {"key": in_base64(f"{log}/".encode()), "range_end": in_base64(f"{log}0".encode()), "permType": "READWRITE"}
+        for path, value in (
+            ("user/add", {"name": "root", "password": "r"}),
+            ("user/grant", {"user": "root", "role": "root"}),
+            ("user/add", {"name": name, "password": password}),
+            ("role/add", {"name": log}),
+            ("role/grant", {"name": log, "perm": lines}),
+            ("user/grant", {"user": name, "role": log}),
+            ("enable", {}),
+        ):
+            status, body = self.post(0, f"/v3/auth/{path}", json.dumps(value))
+            if status != 200:
+                sys.exit(f"FAILED: {path} of etcd: {status} {body}")
+
     def lines(self, index, name):
         """Returns the lines of a log."""
         first, last = (in_base64(f"{name}/{digits}".encode()) for digits in ("0000000000", "9999999999"))
