@@ -18,7 +18,7 @@ use Rattle.registry_http.specs.Messages.{Says}
 use Rattle.registry_http.proofs.MessageLemmas.{message_says_one_thing}
 use Rattle.registry_desk.specs.declared.fault.DeskFault.{DeskFault}
 use Rattle.registry_desk.specs.declared.fault.DeskFault.TheVariants.{NoMemory, Registry}
-use Rattle.registry_store.specs.Faults.{is_foreign}
+use Rattle.registry_store.specs.Faults.{is_foreign_fault}
 use Rattle.registry_desk.specs.Faults.{fault_of_done, unavailable_of}
 use Rattle.registry_http.specs.declared.unavailable.Unavailable.{Unavailable}
 use Rattle.registry_desk.specs.Acting.{IsResponse, after_message, IsOfSoundRegistry, IsLeftUnavailable, IsFaultFor}
@@ -117,9 +117,9 @@ told_by (Err NoMemory) response fault told = subst (λ (f : Option Fault). IsTol
 told_by (Err (Registry why)) response fault told = subst (λ (f : Option Fault). IsToldBy f response) (sym told.1) told.0
 
 -- a poisoned registry was not asked
-pub not_asked : (spent : Bool) (fault : Option Fault) → (spent ≡ true → fault ≡ Some faults.Poisoned) → (spent ≡ false → fault ≡ None) → is_foreign fault ≡ false
-not_asked true fault poisoned none = ap is_foreign (poisoned refl)
-not_asked false fault poisoned none = ap is_foreign (none refl)
+pub not_asked : (spent : Bool) (fault : Option Fault) → (spent ≡ true → fault ≡ Some faults.Poisoned) → (spent ≡ false → fault ≡ None) → is_foreign_fault fault ≡ false
+not_asked true fault poisoned none = ap is_foreign_fault (poisoned refl)
+not_asked false fault poisoned none = ap is_foreign_fault (none refl)
 
 -- the fault is Poisoned only if that was the fault of the registry
 pub tells_poisoned : (done : Result Response DeskFault) (response : Response) (fault : Option Fault) → IsTold done response fault → fault ≡ Some faults.Poisoned → done ≡ Err (Registry faults.Poisoned)

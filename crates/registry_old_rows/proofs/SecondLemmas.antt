@@ -19,7 +19,7 @@ use Rattle.table_laws.proofs.DeleteLemmas.{deletes_stored}
 use Rattle.table_laws.proofs.UnnumberedLemmas.{kept_all}
 use Rattle.table_laws.proofs.WriteLemmas.{deletes}
 use Rattle.table_laws.proofs.StatementLemmas.{answers, puts_numbered}
-use Rattle.registry_schema.specs.Schema.{schema_2, meta, reserved, spans}
+use Rattle.registry_schema.specs.Schema.{schema_2, meta_table, reserved_table, spans_table}
 use Rattle.registry_schema.specs.declared.fault.TableFault.{TableFault}
 use Rattle.registry_schema.specs.declared.fault.TableFault.TheVariants.{Foreign}
 use Rattle.registry_rows.specs.declared.meta.Meta.{Meta}
@@ -56,21 +56,21 @@ reads_reserved vid old new rows h t numbers has =
 pub puts_old_meta : (vid : ℕ) (old new : State) (x : Meta) (count : ℕ) → IsMeta x → Executes put_old_meta_text (meta_shown x) old new (Ok count) → (t : Tables) (numbers : List ℕ) → HoldsSecond vid old.now t numbers
     → HoldsSecond vid new.now (record t { metas = insert_by meta_key t.metas x }) numbers
 puts_old_meta vid old new x count valid h t numbers has =
-    let done = puts_numbered schema_2 untied_2 0 0 meta.name meta.columns IsMeta refl meta_key meta_row (λ _. refl) put_old_meta_text put_old_meta_terms 5 put_old_meta_is (λ new old. refl) (meta_shown x) x refl
+    let done = puts_numbered schema_2 untied_2 0 0 meta_table.name meta_table.columns IsMeta refl meta_key meta_row (λ _. refl) put_old_meta_text put_old_meta_terms 5 put_old_meta_is (λ new old. refl) (meta_shown x) x refl
     (λ rows. ap (with_rowid Chosen rows) (cast_meta x)) (cast_meta x) old new has.schema t.metas has.rows.first.lasting.metas valid count h in
     holds_second_metas vid old.now new.now t numbers done.0 _ has done.1 done.2
 
 pub puts_old_span : (vid : ℕ) (old new : State) (x : Span) (count : ℕ) → IsSpanOf vid (vid, x) → Executes put_old_span_text (whole x.first ∷ whole x.last ∷ []) old new (Ok count) → (t : Tables) (numbers : List ℕ) → HoldsSecond vid old.now t numbers
     → HoldsSecond vid new.now (record t { spans = insert_by old_span_key t.spans (vid, x) }) numbers
 puts_old_span vid old new x count valid h t numbers has =
-    let done = puts_numbered schema_2 untied_2 9 13 spans.name spans.columns (IsSpanOf vid) refl old_span_key old_span_row (λ _. refl) put_old_span_text put_old_span_terms 3 put_old_span_is (λ new old. refl) (whole x.first ∷ whole x.last ∷ []) (vid, x) refl
+    let done = puts_numbered schema_2 untied_2 9 13 spans_table.name spans_table.columns (IsSpanOf vid) refl old_span_key old_span_row (λ _. refl) put_old_span_text put_old_span_terms 3 put_old_span_is (λ new old. refl) (whole x.first ∷ whole x.last ∷ []) (vid, x) refl
     (λ rows. ap (with_rowid Chosen rows) (cast_fixed x)) (cast_fixed x) old new has.schema t.spans has.rows.spans valid count h in
     holds_second_spans vid old.now new.now t numbers done.0 _ has done.1 done.2
 
 pub empties_reserved : (vid : ℕ) (old new : State) (count : ℕ) → Executes empty_reserved_text [] old new (Ok count) → (t : Tables) (numbers : List ℕ) → HoldsSecond vid old.now t numbers → HoldsSecond vid new.now t []
 empties_reserved vid old new count h t numbers has =
     let w = runs_as empty_reserved_text [] old new schema_2 has.schema _ empty_reserved_is.is empty_reserved_is.plain count h in
-    let done = deletes schema_2 untied_2 7 10 reserved.name reserved.columns (Some 0) (0 ∷ []) [] refl old new has.schema _ [] count _ w in
+    let done = deletes schema_2 untied_2 7 10 reserved_table.name reserved_table.columns (Some 0) (0 ∷ []) [] refl old new has.schema _ [] count _ w in
     let left = deletes_stored IsId number_key number_row (λ _. refl) (overlay old.now.trees []) 10 numbers has.rows.first.reserved [] [] (λ _. true) (λ _. refl) done.0 (done.1.answer Null) in
     holds_second_reserved vid old.now new.now t numbers _ [] has done.2 (subst (Stores IsId number_key number_row _) (none_left numbers) left)
 

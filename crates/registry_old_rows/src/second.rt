@@ -7,7 +7,7 @@ ghost use Rattle.usbnum_core.specs.Number.{IsId};
 ghost use Rattle.registry_rows.specs.Rows.{meta_key, meta_shown};
 ghost use Rattle.registry_old_rows.specs.Old.{number_shown, old_span_key};
 ghost use Rattle.registry_old_rows.specs.Steps.{Rewrites, IsHeld};
-ghost use Rattle.registry_rows.specs.Steps.{Writes, Reads, ReadsRows};
+ghost use Rattle.registry_rows.specs.Steps.{WritesWithin, ReadsWithin, ReadsRows};
 
 use registry_rows::{FromRow, Meta, all_from, pid_at};
 use registry_schema::TableFault;
@@ -26,7 +26,7 @@ pub fn list_old_metas<S: Alter>(
     alloc: Global,
     tx: &mut Transaction<'_, S>,
 ) -> Result<Vec<Meta>, TableFault>
-    ensures reads { Reads S.Store tx.old.conn tx.new.conn result IsHeld (λ x all. all.items ≡ x.tables.metas) }
+    ensures reads { ReadsWithin S.Store tx.old.conn tx.new.conn result IsHeld (λ x all. all.items ≡ x.tables.metas) }
 {
     let rows = meta_rows(tx)?;
     all_from(alloc, &rows)
@@ -39,7 +39,7 @@ pub fn put_old_meta<S: Alter>(
     vendor: Vid,
     name: &Title,
 ) -> Result<(), TableFault>
-    ensures writes { Writes S.Store tx.old.conn tx.new.conn result (λ old new. (vid : ℕ) → Rewrites vid (λ t. record t { metas = insert_by meta_key t.metas (record { version = version; vendor = vendor; name = name.now }) }) (λ numbers. numbers) old new) }
+    ensures writes { WritesWithin S.Store tx.old.conn tx.new.conn result (λ old new. (vid : ℕ) → Rewrites vid (λ t. record t { metas = insert_by meta_key t.metas (record { version = version; vendor = vendor; name = name.now }) }) (λ numbers. numbers) old new) }
 {
     tx.execute(
         "INSERT OR REPLACE INTO meta (id, version, vendor, name) VALUES (1, ?1, ?2, ?3)",
@@ -81,7 +81,7 @@ pub fn list_reserved<S: Alter>(
     alloc: Global,
     tx: &mut Transaction<'_, S>,
 ) -> Result<Vec<Reserved>, TableFault>
-    ensures reads { Reads S.Store tx.old.conn tx.new.conn result IsHeld (λ x all. map (λ one. one.pid) all.items ≡ x.numbers) }
+    ensures reads { ReadsWithin S.Store tx.old.conn tx.new.conn result IsHeld (λ x all. map (λ one. one.pid) all.items ≡ x.numbers) }
 {
     let rows = reserved_rows(tx)?;
     all_from(alloc, &rows)
@@ -89,7 +89,7 @@ pub fn list_reserved<S: Alter>(
 
 /// Empties the table `reserved`.
 pub fn empty_reserved<S: Alter>(tx: &mut Transaction<'_, S>) -> Result<(), TableFault>
-    ensures writes { Writes S.Store tx.old.conn tx.new.conn result (λ old new. (vid : ℕ) → Rewrites vid (λ t. t) (λ numbers. []) old new) }
+    ensures writes { WritesWithin S.Store tx.old.conn tx.new.conn result (λ old new. (vid : ℕ) → Rewrites vid (λ t. t) (λ numbers. []) old new) }
 {
     tx.execute("DELETE FROM reserved", &[])?;
     Ok(())
@@ -97,7 +97,7 @@ pub fn empty_reserved<S: Alter>(tx: &mut Transaction<'_, S>) -> Result<(), Table
 
 /// Inserts a span of reserved numbers.
 pub fn put_old_span<S: Alter>(tx: &mut Transaction<'_, S>, span: Span) -> Result<(), TableFault>
-    ensures writes { Writes S.Store tx.old.conn tx.new.conn result (λ old new. (vid : ℕ) → IsId vid → Rewrites vid (λ t. record t { spans = insert_by old_span_key t.spans (vid, span) }) (λ numbers. numbers) old new) }
+    ensures writes { WritesWithin S.Store tx.old.conn tx.new.conn result (λ old new. (vid : ℕ) → IsId vid → Rewrites vid (λ t. record t { spans = insert_by old_span_key t.spans (vid, span) }) (λ numbers. numbers) old new) }
 {
     tx.execute(
         "INSERT OR REPLACE INTO spans (lo, hi) VALUES (?1, ?2)",

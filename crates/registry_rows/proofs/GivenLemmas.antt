@@ -6,7 +6,8 @@ use Rattle.sqlite.specs.declared.types.Value.TheVariants.{Text}
 use Rattle.sqlite.specs.Values.{bound_value, or_null}
 use Rattle.usbnum_core.specs.Text.{IsTitle, IsLink}
 use Rattle.registry_rules.specs.declared.record.Terms.{Terms}
-use Rattle.registry_rows.specs.Rows.{part, whole, IsTerms}
+use Rattle.registry_rules.specs.Orders.{IsTerms}
+use Rattle.registry_rows.specs.Rows.{part, whole}
 
 pub part_given : (f : Terms → List ℕ) (terms : Option Terms) (o : Option (Bor (List ℕ))) → option_copied o ≡ option_map f terms → bound_value (or_null (λ s. Text s.now) o) ≡ part f terms
 part_given f None None h = refl

@@ -24,7 +24,7 @@ use Rattle.registry_rules.specs.declared.record.Entry.{Entry}
 use Rattle.registry_rules.specs.declared.record.Petition.{Petition}
 use Rattle.registry_rules.specs.declared.record.Vendor.{Vendor}
 use Rattle.table_laws.proofs.NumberedLemmas.{equal_ints}
-use Rattle.registry_schema.specs.Schema.{schema_5, meta, curators, licences, fixed, orgs, kept, vendors, spans3, entries3, petitions3, digests4, reasons4, opened5, closed5}
+use Rattle.registry_schema.specs.Schema.{schema_5, meta_table, curators_table, licences_table, fixed_table, orgs_table, kept_table, vendors_table, spans3_table, entries3_table, petitions3_table, digests4_table, reasons4_table, opened5_table, closed5_table}
 use Rattle.registry_rows.specs.declared.digests.DigestRow.{DigestRow}
 use Rattle.registry_rows.specs.declared.kept.KeptRow.{KeptRow}
 use Rattle.registry_rows.specs.declared.meta.Meta.{Meta}
@@ -51,68 +51,68 @@ cast_part : (f : Terms → List ℕ) (o : Option Terms) → as_text (part f o) �
 cast_part f None = refl
 cast_part f (Some t) = refl
 
-pub cast_meta : (m : Meta) → cast_row meta (meta_row m) ≡ meta_row m
+pub cast_meta : (m : Meta) → cast_row meta_table (meta_row m) ≡ meta_row m
 cast_meta m = simp (cast_int, cast_null)
 
-pub cast_fixed : (span : Span) → cast_row fixed (fixed_row span) ≡ fixed_row span
+pub cast_fixed : (span : Span) → cast_row fixed_table (fixed_row span) ≡ fixed_row span
 cast_fixed span = simp (cast_int, cast_null)
 
-pub cast_vendor : (v : Vendor) → cast_row vendors (vendor_row v) ≡ vendor_row v
+pub cast_vendor : (v : Vendor) → cast_row vendors_table (vendor_row v) ≡ vendor_row v
 cast_vendor v = simp (cast_int, cast_null)
 
-pub cast_petition : (p : ℕ × Petition) → cast_row petitions3 (petition_row p) ≡ petition_row p
+pub cast_petition : (p : ℕ × Petition) → cast_row petitions3_table (petition_row p) ≡ petition_row p
 cast_petition p = simp (cast_int, cast_null, cast_whole)
 
 cast_time : (o : Option (List ℕ)) → as_text (or_null (λ time. Text time) o) ≡ or_null (λ time. Text time) o
 cast_time None = refl
 cast_time (Some time) = refl
 
-pub cast_digest : (d : ℕ × DigestRow) → cast_row digests4 (digest_row d) ≡ digest_row d
+pub cast_digest : (d : ℕ × DigestRow) → cast_row digests4_table (digest_row d) ≡ digest_row d
 cast_digest d = simp (cast_int, cast_null, cast_time)
 
-pub cast_reason : (r : ℕ × List ℕ) → cast_row reasons4 (reason_row r) ≡ reason_row r
+pub cast_reason : (r : ℕ × List ℕ) → cast_row reasons4_table (reason_row r) ≡ reason_row r
 cast_reason r = simp (cast_int, cast_null)
 
-pub cast_opened : (r : ℕ × List ℕ) → cast_row opened5 (time_row r) ≡ time_row r
+pub cast_opened : (r : ℕ × List ℕ) → cast_row opened5_table (time_row r) ≡ time_row r
 cast_opened r = simp (cast_int, cast_null)
 
-pub cast_closed : (r : ℕ × List ℕ) → cast_row closed5 (time_row r) ≡ time_row r
+pub cast_closed : (r : ℕ × List ℕ) → cast_row closed5_table (time_row r) ≡ time_row r
 cast_closed r = simp (cast_int, cast_null)
 
-pub cast_curator : (name : List ℕ) → cast_row curators (Null ∷ name_row name) ≡ Null ∷ name_row name
+pub cast_curator : (name : List ℕ) → cast_row curators_table (Null ∷ name_row name) ≡ Null ∷ name_row name
 cast_curator name = simp cast_null
 
-pub cast_curator_numbered : (name : List ℕ) (id : ℤ) → cast_row curators (Int id ∷ name_row name) ≡ Int id ∷ name_row name
+pub cast_curator_numbered : (name : List ℕ) (id : ℤ) → cast_row curators_table (Int id ∷ name_row name) ≡ Int id ∷ name_row name
 cast_curator_numbered name id = simp cast_int
 
-pub cast_licence : (name : List ℕ) → cast_row licences (Null ∷ name_row name) ≡ Null ∷ name_row name
+pub cast_licence : (name : List ℕ) → cast_row licences_table (Null ∷ name_row name) ≡ Null ∷ name_row name
 cast_licence name = simp cast_null
 
-pub cast_licence_numbered : (name : List ℕ) (id : ℤ) → cast_row licences (Int id ∷ name_row name) ≡ Int id ∷ name_row name
+pub cast_licence_numbered : (name : List ℕ) (id : ℤ) → cast_row licences_table (Int id ∷ name_row name) ≡ Int id ∷ name_row name
 cast_licence_numbered name id = simp cast_int
 
-pub cast_org : (org : Org) → cast_row orgs (Null ∷ org_row org) ≡ Null ∷ org_row org
+pub cast_org : (org : Org) → cast_row orgs_table (Null ∷ org_row org) ≡ Null ∷ org_row org
 cast_org org = simp cast_null
 
-pub cast_org_numbered : (org : Org) (id : ℤ) → cast_row orgs (Int id ∷ org_row org) ≡ Int id ∷ org_row org
+pub cast_org_numbered : (org : Org) (id : ℤ) → cast_row orgs_table (Int id ∷ org_row org) ≡ Int id ∷ org_row org
 cast_org_numbered org id = simp cast_int
 
-pub cast_kept : (k : KeptRow) → cast_row kept (Null ∷ kept_row k) ≡ Null ∷ kept_row k
+pub cast_kept : (k : KeptRow) → cast_row kept_table (Null ∷ kept_row k) ≡ Null ∷ kept_row k
 cast_kept k = simp cast_null
 
-pub cast_kept_numbered : (k : KeptRow) (id : ℤ) → cast_row kept (Int id ∷ kept_row k) ≡ Int id ∷ kept_row k
+pub cast_kept_numbered : (k : KeptRow) (id : ℤ) → cast_row kept_table (Int id ∷ kept_row k) ≡ Int id ∷ kept_row k
 cast_kept_numbered k id = simp cast_int
 
-pub cast_span : (s : ℕ × Span) → cast_row spans3 (Null ∷ span_row s) ≡ Null ∷ span_row s
+pub cast_span : (s : ℕ × Span) → cast_row spans3_table (Null ∷ span_row s) ≡ Null ∷ span_row s
 cast_span s = simp (cast_int, cast_null)
 
-pub cast_span_numbered : (s : ℕ × Span) (id : ℤ) → cast_row spans3 (Int id ∷ span_row s) ≡ Int id ∷ span_row s
+pub cast_span_numbered : (s : ℕ × Span) (id : ℤ) → cast_row spans3_table (Int id ∷ span_row s) ≡ Int id ∷ span_row s
 cast_span_numbered s id = simp cast_int
 
-pub cast_entry : (e : Number × Entry) → cast_row entries3 (Null ∷ entry_row e) ≡ Null ∷ entry_row e
+pub cast_entry : (e : Number × Entry) → cast_row entries3_table (Null ∷ entry_row e) ≡ Null ∷ entry_row e
 cast_entry e = simp (cast_int, cast_null, cast_part)
 
-pub cast_entry_numbered : (e : Number × Entry) (id : ℤ) → cast_row entries3 (Int id ∷ entry_row e) ≡ Int id ∷ entry_row e
+pub cast_entry_numbered : (e : Number × Entry) (id : ℤ) → cast_row entries3_table (Int id ∷ entry_row e) ≡ Int id ∷ entry_row e
 cast_entry_numbered e id = simp (cast_int, cast_part)
 
 -- ---- keys
@@ -136,26 +136,26 @@ no_more_of_two true true = refl
 no_more_of_two true false = refl
 no_more_of_two false b = refl
 
-pub curators_shared : (new old : ℤ × List ℕ) → list_any (shares None curators (Int new.0 ∷ name_row new.1) (Int old.0 ∷ name_row old.1)) schema_5.indexes ≡ is_named old.1 new.1
+pub curators_shared : (new old : ℤ × List ℕ) → list_any (shares None curators_table (Int new.0 ∷ name_row new.1) (Int old.0 ∷ name_row old.1)) schema_5.indexes ≡ is_named old.1 new.1
 curators_shared new old = no_more (equal (first_key plain).collation (Text old.1) (Text new.1)) ∙ equal_texts old.1 new.1
 
-pub licences_shared : (new old : ℤ × List ℕ) → list_any (shares None licences (Int new.0 ∷ name_row new.1) (Int old.0 ∷ name_row old.1)) schema_5.indexes ≡ is_named old.1 new.1
+pub licences_shared : (new old : ℤ × List ℕ) → list_any (shares None licences_table (Int new.0 ∷ name_row new.1) (Int old.0 ∷ name_row old.1)) schema_5.indexes ≡ is_named old.1 new.1
 licences_shared new old = no_more (equal (first_key plain).collation (Text old.1) (Text new.1)) ∙ equal_texts old.1 new.1
 
-pub orgs_shared : (new old : ℤ × Org) → list_any (shares None orgs (Int new.0 ∷ org_row new.1) (Int old.0 ∷ org_row old.1)) schema_5.indexes ≡ is_called new.1.slug old.1
+pub orgs_shared : (new old : ℤ × Org) → list_any (shares None orgs_table (Int new.0 ∷ org_row new.1) (Int old.0 ∷ org_row old.1)) schema_5.indexes ≡ is_called new.1.slug old.1
 orgs_shared new old = no_more (equal (first_key plain).collation (Text old.1.slug) (Text new.1.slug)) ∙ equal_texts old.1.slug new.1.slug
 
-pub kept_shared : (new old : ℤ × KeptRow) → list_any (shares None kept (Int new.0 ∷ kept_row new.1) (Int old.0 ∷ kept_row old.1)) schema_5.indexes ≡ is_kept_under new.1.caller new.1.key old.1
+pub kept_shared : (new old : ℤ × KeptRow) → list_any (shares None kept_table (Int new.0 ∷ kept_row new.1) (Int old.0 ∷ kept_row old.1)) schema_5.indexes ≡ is_kept_under new.1.caller new.1.key old.1
 kept_shared new old =
     no_more_of_two (equal (first_key plain).collation (Text old.1.caller) (Text new.1.caller)) (equal (first_key plain).collation (Text old.1.key) (Text new.1.key))
     ∙ ap₂ ◌&&◌ (equal_texts old.1.caller new.1.caller) (equal_texts old.1.key new.1.key)
 
-pub spans_shared : (new old : ℤ × (ℕ × Span)) → list_any (shares None spans3 (Int new.0 ∷ span_row new.1) (Int old.0 ∷ span_row old.1)) schema_5.indexes ≡ begins_at new.1.0 new.1.1.first old.1
+pub spans_shared : (new old : ℤ × (ℕ × Span)) → list_any (shares None spans3_table (Int new.0 ∷ span_row new.1) (Int old.0 ∷ span_row old.1)) schema_5.indexes ≡ begins_at new.1.0 new.1.1.first old.1
 spans_shared new old =
     no_more_of_two (equal (first_key plain).collation (whole old.1.0) (whole new.1.0)) (equal (first_key plain).collation (whole old.1.1.first) (whole new.1.1.first))
     ∙ ap₂ ◌&&◌ (equal_ints (pos old.1.0) (pos new.1.0) ∙ same_numbers old.1.0 new.1.0) (equal_ints (pos old.1.1.first) (pos new.1.1.first) ∙ same_numbers old.1.1.first new.1.1.first)
 
-pub entries_shared : (new old : ℤ × (Number × Entry)) → list_any (shares None entries3 (Int new.0 ∷ entry_row new.1) (Int old.0 ∷ entry_row old.1)) schema_5.indexes ≡ is_of new.1.0 old.1
+pub entries_shared : (new old : ℤ × (Number × Entry)) → list_any (shares None entries3_table (Int new.0 ∷ entry_row new.1) (Int old.0 ∷ entry_row old.1)) schema_5.indexes ≡ is_of new.1.0 old.1
 entries_shared new old =
     no_more_of_two (equal (first_key plain).collation (whole old.1.0.vid) (whole new.1.0.vid)) (equal (first_key plain).collation (whole old.1.0.pid) (whole new.1.0.pid))
     ∙ ap₂ ◌&&◌ (equal_numbers old.1.0.vid new.1.0.vid) (equal_numbers old.1.0.pid new.1.0.pid)

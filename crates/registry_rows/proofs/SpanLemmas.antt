@@ -15,7 +15,7 @@ use Rattle.sqlite_typed.proofs.TestLemmas.{at_ints, then_term, last_term, then_k
 use Rattle.usbnum_core.specs.declared.number.Span.{Span}
 use Rattle.table_laws.proofs.SortedLemmas.{shows_sorted}
 use Rattle.table_laws.proofs.StatementLemmas.{answers, puts_unnumbered, removes_unnumbered}
-use Rattle.registry_schema.specs.Schema.{schema_5, spans3}
+use Rattle.registry_schema.specs.Schema.{schema_5, spans3_table}
 use Rattle.registry_rows.specs.Rows.{whole, span_row, IsVendorSpan, begins_at, meets, by_beginning}
 use Rattle.registry_rows.specs.Tables.{Tables, Holds}
 use Rattle.registry_rows.proofs.HoldLemmas.{untied, holds_spans}
@@ -27,7 +27,7 @@ use Rattle.registry_rows.proofs.SpanTexts.{put_span_text, put_span_terms, put_sp
 pub puts_span : (old new : State) (x : ℕ × Span) (count : ℕ) → IsVendorSpan x → Executes put_span_text (span_row x) old new (Ok count) → (t : Tables) → Holds old.now t
     → Holds new.now (record t { spans = delete_where (λ y. begins_at x.0 x.1.first y) t.spans ++ x ∷ [] })
 puts_span old new x count valid h t has =
-    let done = puts_unnumbered schema_5 untied 11 15 spans3.name spans3.columns IsVendorSpan (1 ∷ 2 ∷ []) refl span_row put_span_text put_span_terms 4 put_span_is (λ y x. begins_at x.0 x.1.first y) spans_shared (span_row x) x refl
+    let done = puts_unnumbered schema_5 untied 11 15 spans3_table.name spans3_table.columns IsVendorSpan (1 ∷ 2 ∷ []) refl span_row put_span_text put_span_terms 4 put_span_is (λ y x. begins_at x.0 x.1.first y) spans_shared (span_row x) x refl
     (λ rows. ap (with_rowid Chosen rows) (cast_span x)) (cast_span_numbered x) old new has.schema t.spans has.rows.spans valid count h in
     holds_spans old.now new.now t done.0 _ has done.1 done.2
 
@@ -38,7 +38,7 @@ tells_meeting vid low high id s =
 pub cuts_spans : (old new : State) (vid low high : ℕ) (count : ℕ) → Executes cut_spans_text (whole vid ∷ whole low ∷ whole high ∷ []) old new (Ok count) → (t : Tables) → Holds old.now t
     → Holds new.now (record t { spans = delete_where (meets vid low high) t.spans })
 cuts_spans old new vid low high count h t has =
-    let done = removes_unnumbered schema_5 untied 11 15 spans3.name spans3.columns IsVendorSpan (1 ∷ 2 ∷ []) refl span_row (λ db. refl) cut_spans_text meeting cut_spans_is (whole vid ∷ whole low ∷ whole high ∷ [])
+    let done = removes_unnumbered schema_5 untied 11 15 spans3_table.name spans3_table.columns IsVendorSpan (1 ∷ 2 ∷ []) refl span_row (λ db. refl) cut_spans_text meeting cut_spans_is (whole vid ∷ whole low ∷ whole high ∷ [])
     (meets vid low high) (tells_meeting vid low high) old new has.schema t.spans has.rows.spans count h in
     holds_spans old.now new.now t done.0 _ has done.1 done.2
 

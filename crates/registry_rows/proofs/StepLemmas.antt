@@ -21,7 +21,7 @@ use Rattle.table_laws.proofs.FailLemmas.{IsExcused, IsTyped, query_stops, violat
 use Rattle.registry_schema.specs.Faults.{IsFaultOf}
 use Rattle.registry_schema.specs.declared.fault.TableFault.{TableFault}
 use Rattle.registry_schema.specs.declared.fault.TableFault.TheVariants.{Store, Foreign}
-use Rattle.registry_rows.specs.Steps.{Decodes, Tells, Changes, IsInserted, Inserts, Writes, Reads, ReadsRows}
+use Rattle.registry_rows.specs.Steps.{Decodes, Tells, Changes, IsInserted, Inserts, WritesWithin, ReadsWithin, ReadsRows}
 use Rattle.registry_rows.specs.Columns.{DecodesFirst, DecodesAll}
 use Rattle.registry_rows.specs.Tables.{Tables, Holds}
 
@@ -32,13 +32,13 @@ store_failed old new error fault of is (inr failed) = failed
 
 module _ {S : Type 0} {g : Ghosts S} {old new : MutBor (Held S)} (same : new.ghost_name ≡ old.ghost_name) (quiet : CommitsNothing (state g old.now) (state g new.now)) where
   -- a statement that was executed
-  pub wrote : {A : Type 0} {a : A} {Does : State → State → Type 0} → (HasCleanDisk (state g new.now) → IsTrue (state g old.now).in_transaction → Does (state g old.now) (state g new.now)) → Writes g old new (Ok a) Does
+  pub wrote : {A : Type 0} {a : A} {Does : State → State → Type 0} → (HasCleanDisk (state g new.now) → IsTrue (state g old.now).in_transaction → Does (state g old.now) (state g new.now)) → WritesWithin g old new (Ok a) Does
   wrote done = record { same_reference = same; done = done; fault = λ never. absurd cc; survives = quiet }
 
   -- one that changed the tables
   pub changed : {A : Type 0} {a : A} (sql : List ℕ) (params : Row) (count : ℕ) {after : Tables → Tables}
       → (HasCleanDisk (state g new.now) → IsTrue (state g old.now).in_transaction → ExecutesInside 0 sql params (state g old.now) (state g new.now) (Ok count))
-      → (Executes sql params (state g old.now) (state g new.now) (Ok count) → (t : Tables) → Holds (state g old.now).now t → Holds (state g new.now).now (after t)) → Writes g old new (Ok a) (Changes after)
+      → (Executes sql params (state g old.now) (state g new.now) (Ok count) → (t : Tables) → Holds (state g old.now).now t → Holds (state g new.now).now (after t)) → WritesWithin g old new (Ok a) (Changes after)
   changed sql params count runs after = wrote (λ clean inside. (let ran = runs clean inside in (ran.1, after ran.0)))
 
   -- an INSERT, by what it told
@@ -89,14 +89,14 @@ module _ {S : Type 0} {g : Ghosts S} {old new : MutBor (Held S)} (same : new.gho
 -- ---- an INSERT, and what is done where another row has the key
 
 module _ {S : Type 0} {g : Ghosts S} {a b : MutBor (Held S)} {Does : State → State → Type 0} where
-  pub wrote_once : {A : Type 0} {it : A} → Inserts g a b (Ok true) Does → Writes g a b (Ok it) Does
+  pub wrote_once : {A : Type 0} {it : A} → Inserts g a b (Ok true) Does → WritesWithin g a b (Ok it) Does
   wrote_once one = record { same_reference = one.same_reference; done = one.done; fault = λ never. absurd cc; survives = one.survives }
 
-  pub insert_failed : {A : Type 0} {result : Result A TableFault} {fault : TableFault} → result ≡ Err fault → Inserts g a b (Err fault) Does → Writes g a b result Does
-  insert_failed {A} {result} {fault} is one = subst (λ r. Writes g a b r Does) (sym is) (record { same_reference = one.same_reference; done = one.done; fault = λ never. one.fault (let same : fault ≡ Foreign = cc in ap Err same); survives = one.survives })
+  pub insert_failed : {A : Type 0} {result : Result A TableFault} {fault : TableFault} → result ≡ Err fault → Inserts g a b (Err fault) Does → WritesWithin g a b result Does
+  insert_failed {A} {result} {fault} is one = subst (λ r. WritesWithin g a b r Does) (sym is) (record { same_reference = one.same_reference; done = one.done; fault = λ never. one.fault (let same : fault ≡ Foreign = cc in ap Err same); survives = one.survives })
 
 pub wrote_instead : {S : Type 0} {g : Ghosts S} {a b c : MutBor (Held S)} {A : Type 0} {result : Result A TableFault} {after : Tables → Tables}
-    → Inserts g a b (Ok false) (Changes after) → Writes g b c result (Changes after) → Writes g a c result (Changes after)
+    → Inserts g a b (Ok false) (Changes after) → WritesWithin g b c result (Changes after) → WritesWithin g a c result (Changes after)
 wrote_instead {S} {g} {a} {b} {c} {A} {result} {after} one other = record {
   same_reference = other.same_reference ∙ one.same_reference;
   done = λ clean inside. (
@@ -134,17 +134,17 @@ tells_as old new Held Says Also (Err e) means h = h
 module _ {S : Type 0} {g : Ghosts S} {old new : MutBor (Held S)} {V X : Type 0} (IsValid : V → Type 0) (show : V → Row) {Is : Database → X → Type 0} {rows : Vec Row Global} where
   -- all rows read as all values
   pub reads_all_by : (pick : X → List V) → ReadsRows g old new (Ok rows) Is (λ x. map show (pick x)) → ((x : X) → Is (state g old.now).now x → AllByRecursion IsValid (pick x)) → {A : Type 0} (items : A → List V) {result : Result A TableFault}
-      → ((values : List V) → AllByRecursion IsValid values → rows.items ≡ map show values → MatchResult result (λ all. items all ≡ values) (λ fault. fault ≢ Foreign)) → result ≢ Err Store → Reads g old new result Is (λ x all. items all ≡ pick x)
+      → ((values : List V) → AllByRecursion IsValid values → rows.items ≡ map show values → MatchResult result (λ all. items all ≡ values) (λ fault. fault ≢ Foreign)) → result ≢ Err Store → ReadsWithin g old new result Is (λ x all. items all ≡ pick x)
   reads_all_by pick read valid {A} items {result} decodes kind =
       record { same_reference = read.reads.same_reference; told = λ clean inside. tells_all IsValid show (state g old.now) (state g new.now) (Is (state g old.now).now) rows.items pick (read.reads.told clean inside) valid items result decodes kind; survives = read.reads.survives }
 
   pub reads_all : (pick : X → List V) → ReadsRows g old new (Ok rows) Is (λ x. map show (pick x)) → ((x : X) → Is (state g old.now).now x → AllByRecursion IsValid (pick x)) → {A : Type 0} (items : A → List V) {result : Result A TableFault}
-      → DecodesAll IsValid show rows.items items result → Reads g old new result Is (λ x all. items all ≡ pick x)
+      → DecodesAll IsValid show rows.items items result → ReadsWithin g old new result Is (λ x all. items all ≡ pick x)
   reads_all pick read valid items decoded = reads_all_by pick read valid items decoded.decodes decoded.fault
 
   -- the first of them reads as the value that the test finds
   pub reads_first : (test : V → Bool) (all : X → List V) → ReadsRows g old new (Ok rows) Is (λ x. map show (filter test (all x))) → ((x : X) → Is (state g old.now).now x → AllByRecursion IsValid (all x)) → {result : Result (Option V) TableFault}
-      → DecodesFirst IsValid show rows.items result → Reads g old new result Is (λ x found. found ≡ find test (all x))
+      → DecodesFirst IsValid show rows.items result → ReadsWithin g old new result Is (λ x found. found ≡ find test (all x))
   reads_first test all read valid {result} decoded = record {
     same_reference = read.reads.same_reference;
     told = λ clean inside. tells_as (state g old.now) (state g new.now) (Is (state g old.now).now) (λ x found. found ≡ slice_get (filter test (all x)) 0) (λ x found. found ≡ find test (all x)) result (λ x found is. is ∙ slice_get-filter test (all x)) (tells_first IsValid show (state g old.now) (state g new.now) (Is (state g old.now).now) rows.items (λ x. filter test (all x)) (read.reads.told clean inside) (λ x has. all-filter IsValid test (all x) (valid x has)) result decoded.decodes decoded.fault);
@@ -153,7 +153,7 @@ module _ {S : Type 0} {g : Ghosts S} {old new : MutBor (Held S)} {V X : Type 0} 
 
 -- one read as another
 pub reads_by : {S : Type 0} {g : Ghosts S} {old new : MutBor (Held S)} {A B X Y : Type 0} {r : Result A TableFault} {s : Result B TableFault} {Is : Database → X → Type 0} {Are : Database → Y → Type 0} {Says : X → A → Type 0} {Also : Y → B → Type 0}
-    → (Tells (state g old.now) (state g new.now) (Is (state g old.now).now) r Says → Tells (state g old.now) (state g new.now) (Are (state g old.now).now) s Also) → Reads g old new r Is Says → Reads g old new s Are Also
+    → (Tells (state g old.now) (state g new.now) (Is (state g old.now).now) r Says → Tells (state g old.now) (state g new.now) (Are (state g old.now).now) s Also) → ReadsWithin g old new r Is Says → ReadsWithin g old new s Are Also
 reads_by retell read = record { same_reference = read.same_reference; told = λ clean inside. retell (read.told clean inside); survives = read.survives }
 
 -- ---- values picked from valid ones are valid

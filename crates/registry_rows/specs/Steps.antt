@@ -43,7 +43,7 @@ module _ (old new : State) where
 module _ {S : Type 0} (g : Ghosts S) (old new : MutBor (Held S)) where
   -- This is done within the transaction, or a fault comes that is not Foreign, and the transaction goes on or was rolled back.
   -- Nothing is committed.
-  pub record Writes {A : Type 0} (result : Result A TableFault) (Does : State → State → Type 0) : Type 0 where
+  pub record WritesWithin {A : Type 0} (result : Result A TableFault) (Does : State → State → Type 0) : Type 0 where
     pub same_reference : new.ghost_name ≡ old.ghost_name
     pub done : HasCleanDisk (state g new.now) → IsTrue (state g old.now).in_transaction → MatchResult result (λ _. Does (state g old.now) (state g new.now)) (λ _. StaysInside (state g old.now) (state g new.now))
     pub fault : result ≢ Err Foreign
@@ -58,12 +58,12 @@ module _ {S : Type 0} (g : Ghosts S) (old new : MutBor (Held S)) where
     pub survives : CommitsNothing (state g old.now) (state g new.now)
 
   -- what the database holds is read within the transaction; nothing is committed
-  pub record Reads {A X : Type 0} (result : Result A TableFault) (Is : Database → X → Type 0) (Says : X → A → Type 0) : Type 0 where
+  pub record ReadsWithin {A X : Type 0} (result : Result A TableFault) (Is : Database → X → Type 0) (Says : X → A → Type 0) : Type 0 where
     pub same_reference : new.ghost_name ≡ old.ghost_name
     pub told : HasCleanDisk (state g new.now) → IsTrue (state g old.now).in_transaction → Tells (state g old.now) (state g new.now) (Is (state g old.now).now) result Says
     pub survives : CommitsNothing (state g old.now) (state g new.now)
 
   -- its rows are read as SELECT shows them; a fault is never Foreign
   pub record ReadsRows {X : Type 0} (result : Result (Vec Row Global) TableFault) (Is : Database → X → Type 0) (shown : X → List Row) : Type 0 where
-    pub reads : Reads result Is (λ x rows. rows.items ≡ shown x)
+    pub reads : ReadsWithin result Is (λ x rows. rows.items ≡ shown x)
     pub fault : result ≢ Err Foreign

@@ -6,7 +6,7 @@ ghost use Rattle.usbnum_core.specs.Text.{IsTime};
 ghost use Rattle.sqlite_keyed.specs.Keyed.{insert_by};
 ghost use Rattle.registry_rows.specs.Rows.{IsDigestRow, digest_key, digest_columns, digest_shown, is_digest_after, is_digest_at};
 ghost use Rattle.registry_rows.specs.Columns.{HasColumns};
-ghost use Rattle.registry_rows.specs.Steps.{Changes, Decodes, Reads, ReadsRows, Writes};
+ghost use Rattle.registry_rows.specs.Steps.{Changes, Decodes, ReadsWithin, ReadsRows, WritesWithin};
 ghost use Rattle.registry_rows.specs.Tables.{Holds};
 
 use crate::columns::{number_at, text_at, text_or_null_at};
@@ -65,7 +65,7 @@ pub fn put_digest<S: Alter>(
     time: &Option<Time>,
     digest: &Digest,
 ) -> Result<(), TableFault>
-    ensures writes { Writes S.Store tx.old.conn tx.new.conn result (Changes (λ t. record t { digests = insert_by digest_key t.digests (id, record { time = time.now; digest = digest.now }) })) }
+    ensures writes { WritesWithin S.Store tx.old.conn tx.new.conn result (Changes (λ t. record t { digests = insert_by digest_key t.digests (id, record { time = time.now; digest = digest.now }) })) }
 {
     tx.execute(
         "INSERT INTO digests4 (id, time, digest) VALUES (?1, ?2, ?3)",
@@ -88,7 +88,7 @@ pub fn last_digest<S: Alter>(
     alloc: Global,
     tx: &mut Transaction<'_, S>,
 ) -> Result<Vec<(u32, DigestRow)>, TableFault>
-    ensures reads { Reads S.Store tx.old.conn tx.new.conn result Holds (λ t all. all.items ≡ take 1 (reverse t.digests)) }
+    ensures reads { ReadsWithin S.Store tx.old.conn tx.new.conn result Holds (λ t all. all.items ≡ take 1 (reverse t.digests)) }
 {
     let rows = last_rows(tx)?;
     all_from(alloc, &rows)
@@ -122,7 +122,7 @@ pub fn find_digest<S: Alter>(
     tx: &mut Transaction<'_, S>,
     id: u32,
 ) -> Result<Option<(u32, DigestRow)>, TableFault>
-    ensures reads { Reads S.Store tx.old.conn tx.new.conn result Holds (λ t found. found ≡ find (is_digest_at id) t.digests) }
+    ensures reads { ReadsWithin S.Store tx.old.conn tx.new.conn result Holds (λ t found. found ≡ find (is_digest_at id) t.digests) }
 {
     let rows = rows_at(tx, id)?;
     first_from(alloc, &rows)
@@ -136,7 +136,7 @@ pub fn digests_after<S: Alter>(
     after: u32,
     most: u32,
 ) -> Result<Vec<(u32, DigestRow)>, TableFault>
-    ensures reads { Reads S.Store tx.old.conn tx.new.conn result Holds (λ t all. all.items ≡ take most (filter (is_digest_after after) t.digests)) }
+    ensures reads { ReadsWithin S.Store tx.old.conn tx.new.conn result Holds (λ t all. all.items ≡ take most (filter (is_digest_after after) t.digests)) }
 {
     let rows = rows_after(tx, after, most)?;
     all_from(alloc, &rows)

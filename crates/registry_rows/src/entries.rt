@@ -8,7 +8,7 @@ ghost use Rattle.registry_rules.specs.Records.{with_held, with_card};
 ghost use Rattle.registry_rows.specs.Rows.{IsEntry, whole, entry_row, is_of, is_between, by_number};
 ghost use Rattle.registry_rows.specs.Columns.{HasColumns, terms_columns, entry_columns};
 ghost use Rattle.sqlite.specs.declared.types.Value.TheVariants.{Text};
-ghost use Rattle.registry_rows.specs.Steps.{Changes, Decodes, Inserts, Reads, ReadsRows, Writes};
+ghost use Rattle.registry_rows.specs.Steps.{Changes, Decodes, Inserts, ReadsWithin, ReadsRows, WritesWithin};
 ghost use Rattle.registry_rows.specs.Tables.{Holds};
 
 use crate::columns::{flag_at, pid_at, text_at, text_or_null_at, vid_at};
@@ -144,7 +144,7 @@ fn replace_entry<S: Alter>(
     number: &Number,
     entry: &Entry,
 ) -> Result<(), TableFault>
-    ensures writes { Writes S.Store tx.old.conn tx.new.conn result (Changes (λ t. record t { entries = delete_where (λ other. is_of number.now other) t.entries ++ (number.now, entry.now) ∷ [] })) }
+    ensures writes { WritesWithin S.Store tx.old.conn tx.new.conn result (Changes (λ t. record t { entries = delete_where (λ other. is_of number.now other) t.entries ++ (number.now, entry.now) ∷ [] })) }
 {
     tx.execute(
         "INSERT OR REPLACE INTO entries3 (vid, pid, org, held, title, licence, site, source) VALUES (?1, ?2, ?3, ?4, ?5, ?6, ?7, ?8)",
@@ -168,7 +168,7 @@ pub fn put_entry<S: Alter>(
     number: Number,
     entry: &Entry,
 ) -> Result<(), TableFault>
-    ensures writes { Writes S.Store tx.old.conn tx.new.conn result (Changes (λ t. record t { entries = delete_where (λ other. is_of number other) t.entries ++ (number, entry.now) ∷ [] })) }
+    ensures writes { WritesWithin S.Store tx.old.conn tx.new.conn result (Changes (λ t. record t { entries = delete_where (λ other. is_of number other) t.entries ++ (number, entry.now) ∷ [] })) }
 {
     if add_entry(tx, &number, entry)? {
         return Ok(());
@@ -182,7 +182,7 @@ pub fn set_held<S: Alter>(
     number: Number,
     held: bool,
 ) -> Result<(), TableFault>
-    ensures writes { Writes S.Store tx.old.conn tx.new.conn result (Changes (λ t. record t { entries = update_where (is_of number) (λ e. (e.0, with_held held e.1)) t.entries })) }
+    ensures writes { WritesWithin S.Store tx.old.conn tx.new.conn result (Changes (λ t. record t { entries = update_where (is_of number) (λ e. (e.0, with_held held e.1)) t.entries })) }
 {
     tx.execute(
         "UPDATE entries3 SET held = ?1 WHERE vid = ?2 AND pid = ?3",
@@ -201,7 +201,7 @@ pub fn set_card<S: Alter>(
     number: Number,
     card: &Card,
 ) -> Result<(), TableFault>
-    ensures writes { Writes S.Store tx.old.conn tx.new.conn result (Changes (λ t. record t { entries = update_where (is_of number) (λ e. (e.0, with_card card.now e.1)) t.entries })) }
+    ensures writes { WritesWithin S.Store tx.old.conn tx.new.conn result (Changes (λ t. record t { entries = update_where (is_of number) (λ e. (e.0, with_card card.now e.1)) t.entries })) }
 {
     tx.execute(
         "UPDATE entries3 SET title = ?1, licence = ?2, site = ?3, source = ?4 WHERE vid = ?5 AND pid = ?6",
@@ -232,7 +232,7 @@ pub fn find_entry<S: Alter>(
     tx: &mut Transaction<'_, S>,
     number: Number,
 ) -> Result<Option<(Number, Entry)>, TableFault>
-    ensures reads { Reads S.Store tx.old.conn tx.new.conn result Holds (λ t found. found ≡ find (is_of number) t.entries) }
+    ensures reads { ReadsWithin S.Store tx.old.conn tx.new.conn result Holds (λ t found. found ≡ find (is_of number) t.entries) }
 {
     let rows = entry_rows(tx, number)?;
     first_from(alloc, &rows)
@@ -264,7 +264,7 @@ pub fn find_entries<S: Alter>(
     low: Pid,
     high: Pid,
 ) -> Result<Vec<(Number, Entry)>, TableFault>
-    ensures reads { Reads S.Store tx.old.conn tx.new.conn result Holds (λ t all. all.items ≡ sort_by by_number (filter (is_between vid low high) t.entries)) }
+    ensures reads { ReadsWithin S.Store tx.old.conn tx.new.conn result Holds (λ t all. all.items ≡ sort_by by_number (filter (is_between vid low high) t.entries)) }
 {
     let rows = rows_between(tx, vid, low, high)?;
     all_from(alloc, &rows)
@@ -284,7 +284,7 @@ pub fn list_entries<S: Alter>(
     alloc: Global,
     tx: &mut Transaction<'_, S>,
 ) -> Result<Vec<(Number, Entry)>, TableFault>
-    ensures reads { Reads S.Store tx.old.conn tx.new.conn result Holds (λ t all. all.items ≡ sort_by by_number t.entries) }
+    ensures reads { ReadsWithin S.Store tx.old.conn tx.new.conn result Holds (λ t all. all.items ≡ sort_by by_number t.entries) }
 {
     let rows = all_rows(tx)?;
     all_from(alloc, &rows)

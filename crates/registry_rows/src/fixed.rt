@@ -3,7 +3,7 @@
 ghost use Rattle.std.specs.Prelude.{◌≡◌, map};
 ghost use Rattle.sqlite_keyed.specs.Keyed.{insert_by};
 ghost use Rattle.registry_rows.specs.Rows.{fixed_key, fixed_shown};
-ghost use Rattle.registry_rows.specs.Steps.{Changes, Reads, ReadsRows, Writes};
+ghost use Rattle.registry_rows.specs.Steps.{Changes, ReadsWithin, ReadsRows, WritesWithin};
 ghost use Rattle.registry_rows.specs.Tables.{Holds};
 
 use crate::columns::span_at;
@@ -27,7 +27,7 @@ impl FromRow for Span {
 
 /// Inserts the span, or replaces the one with the same first number.
 pub fn put_fixed<S: Alter>(tx: &mut Transaction<'_, S>, span: Span) -> Result<(), TableFault>
-    ensures writes { Writes S.Store tx.old.conn tx.new.conn result (Changes (λ t. record t { fixed = insert_by fixed_key t.fixed span })) }
+    ensures writes { WritesWithin S.Store tx.old.conn tx.new.conn result (Changes (λ t. record t { fixed = insert_by fixed_key t.fixed span })) }
 {
     tx.execute(
         "INSERT OR REPLACE INTO fixed (lo, hi) VALUES (?1, ?2)",
@@ -48,7 +48,7 @@ pub fn list_fixed<S: Alter>(
     alloc: Global,
     tx: &mut Transaction<'_, S>,
 ) -> Result<Vec<Span>, TableFault>
-    ensures reads { Reads S.Store tx.old.conn tx.new.conn result Holds (λ t all. all.items ≡ t.fixed) }
+    ensures reads { ReadsWithin S.Store tx.old.conn tx.new.conn result Holds (λ t all. all.items ≡ t.fixed) }
 {
     let rows = all_rows(tx)?;
     all_from(alloc, &rows)

@@ -4,7 +4,7 @@ ghost use Rattle.std.specs.Prelude.{◌≡◌, [], ◌∷◌, ◌++◌, map, fil
 ghost use Rattle.sqlite_keyed.specs.Keyed.{next_key};
 ghost use Rattle.sqlite_keyed.specs.Lists.{delete_where};
 ghost use Rattle.registry_rows.specs.Rows.{kept_row, is_kept_under, has_reply_within};
-ghost use Rattle.registry_rows.specs.Steps.{Changes, Reads, ReadsRows, Writes};
+ghost use Rattle.registry_rows.specs.Steps.{Changes, ReadsWithin, ReadsRows, WritesWithin};
 ghost use Rattle.registry_rows.specs.Tables.{Holds, replies, replies_after};
 
 use crate::columns::{canonical_form_at, reply_at, text_at};
@@ -54,7 +54,7 @@ pub fn put_kept<S: Alter>(
     order: &CanonicalForm,
     reply: &ReplyText,
 ) -> Result<(), TableFault>
-    ensures writes { Writes S.Store tx.old.conn tx.new.conn result (Changes (λ t. record t { kept = delete_where (λ other. is_kept_under caller.now key.now other.1) t.kept ++ (next_key (λ other. other.0) t.kept, record { caller = caller.now; key = key.now; kept = record { order = order.now; reply = reply.now } }) ∷ [] })) }
+    ensures writes { WritesWithin S.Store tx.old.conn tx.new.conn result (Changes (λ t. record t { kept = delete_where (λ other. is_kept_under caller.now key.now other.1) t.kept ++ (next_key (λ other. other.0) t.kept, record { caller = caller.now; key = key.now; kept = record { order = order.now; reply = reply.now } }) ∷ [] })) }
 {
     tx.execute(
         "INSERT INTO kept (caller, request_key, request, reply) VALUES (?1, ?2, ?3, ?4)",
@@ -88,7 +88,7 @@ pub fn find_kept<S: Alter>(
     caller: &Slug,
     key: &Key,
 ) -> Result<Option<KeptRow>, TableFault>
-    ensures reads { Reads S.Store tx.old.conn tx.new.conn result Holds (λ t found. found ≡ find (is_kept_under caller.now key.now) (replies t)) }
+    ensures reads { ReadsWithin S.Store tx.old.conn tx.new.conn result Holds (λ t found. found ≡ find (is_kept_under caller.now key.now) (replies t)) }
 {
     let rows = kept_rows(tx, caller, key)?;
     first_from(alloc, &rows)
@@ -115,7 +115,7 @@ pub fn kept_after<S: Alter>(
     after: u32,
     most: u32,
 ) -> Result<Vec<KeptRow>, TableFault>
-    ensures reads { Reads S.Store tx.old.conn tx.new.conn result Holds (λ t all. all.items ≡ take most (replies_after after t)) }
+    ensures reads { ReadsWithin S.Store tx.old.conn tx.new.conn result Holds (λ t all. all.items ≡ take most (replies_after after t)) }
 {
     let rows = rows_after(tx, after, most)?;
     all_from(alloc, &rows)
@@ -142,7 +142,7 @@ pub fn kept_with_replies<S: Alter>(
     low: &str,
     high: &str,
 ) -> Result<Vec<KeptRow>, TableFault>
-    ensures reads { Reads S.Store tx.old.conn tx.new.conn result Holds (λ t all. all.items ≡ filter (has_reply_within low.now high.now) (replies t)) }
+    ensures reads { ReadsWithin S.Store tx.old.conn tx.new.conn result Holds (λ t all. all.items ≡ filter (has_reply_within low.now high.now) (replies t)) }
 {
     let rows = rows_with_replies(tx, low, high)?;
     all_from(alloc, &rows)

@@ -3,7 +3,7 @@
 ghost use Rattle.std.specs.Prelude.{◌≡◌, [], ◌∷◌, ◌++◌, map};
 ghost use Rattle.sqlite_keyed.specs.Lists.{delete_where, sort_by};
 ghost use Rattle.registry_rows.specs.Rows.{name_row, is_named, by_bytes};
-ghost use Rattle.registry_rows.specs.Steps.{Changes, Reads, ReadsRows, Writes};
+ghost use Rattle.registry_rows.specs.Steps.{Changes, ReadsWithin, ReadsRows, WritesWithin};
 ghost use Rattle.registry_rows.specs.Tables.{Holds};
 
 use crate::columns::text_at;
@@ -41,7 +41,7 @@ impl FromRow for Title {
 
 /// Inserts the curator, or replaces its row.
 pub fn put_curator<S: Alter>(tx: &mut Transaction<'_, S>, name: &Slug) -> Result<(), TableFault>
-    ensures writes { Writes S.Store tx.old.conn tx.new.conn result (Changes (λ t. record t { curators = delete_where (λ other. is_named other name.now) t.curators ++ name.now ∷ [] })) }
+    ensures writes { WritesWithin S.Store tx.old.conn tx.new.conn result (Changes (λ t. record t { curators = delete_where (λ other. is_named other name.now) t.curators ++ name.now ∷ [] })) }
 {
     tx.execute(
         "INSERT OR REPLACE INTO curators (name) VALUES (?1)",
@@ -61,7 +61,7 @@ pub fn list_curators<S: Alter>(
     alloc: Global,
     tx: &mut Transaction<'_, S>,
 ) -> Result<Vec<Slug>, TableFault>
-    ensures reads { Reads S.Store tx.old.conn tx.new.conn result Holds (λ t all. all.items ≡ sort_by by_bytes t.curators) }
+    ensures reads { ReadsWithin S.Store tx.old.conn tx.new.conn result Holds (λ t all. all.items ≡ sort_by by_bytes t.curators) }
 {
     let rows = curator_rows(tx)?;
     all_from(alloc, &rows)
@@ -69,7 +69,7 @@ pub fn list_curators<S: Alter>(
 
 /// Inserts the licence, or replaces its row.
 pub fn put_licence<S: Alter>(tx: &mut Transaction<'_, S>, name: &Title) -> Result<(), TableFault>
-    ensures writes { Writes S.Store tx.old.conn tx.new.conn result (Changes (λ t. record t { licences = delete_where (λ other. is_named other name.now) t.licences ++ name.now ∷ [] })) }
+    ensures writes { WritesWithin S.Store tx.old.conn tx.new.conn result (Changes (λ t. record t { licences = delete_where (λ other. is_named other name.now) t.licences ++ name.now ∷ [] })) }
 {
     tx.execute(
         "INSERT OR REPLACE INTO licences (name) VALUES (?1)",
@@ -89,7 +89,7 @@ pub fn list_licences<S: Alter>(
     alloc: Global,
     tx: &mut Transaction<'_, S>,
 ) -> Result<Vec<Title>, TableFault>
-    ensures reads { Reads S.Store tx.old.conn tx.new.conn result Holds (λ t all. all.items ≡ sort_by by_bytes t.licences) }
+    ensures reads { ReadsWithin S.Store tx.old.conn tx.new.conn result Holds (λ t all. all.items ≡ sort_by by_bytes t.licences) }
 {
     let rows = licence_rows(tx)?;
     all_from(alloc, &rows)

@@ -3,7 +3,7 @@
 ghost use Rattle.std.specs.Prelude.{◌≡◌, [], ◌∷◌, ◌++◌, map, filter, find};
 ghost use Rattle.sqlite_keyed.specs.Lists.{delete_where, sort_by};
 ghost use Rattle.registry_rows.specs.Rows.{org_row, is_called, by_slug};
-ghost use Rattle.registry_rows.specs.Steps.{Changes, Inserts, Reads, ReadsRows, Writes};
+ghost use Rattle.registry_rows.specs.Steps.{Changes, Inserts, ReadsWithin, ReadsRows, WritesWithin};
 ghost use Rattle.registry_rows.specs.Tables.{Holds};
 
 use crate::columns::text_at;
@@ -49,7 +49,7 @@ fn add_org<S: Alter>(tx: &mut Transaction<'_, S>, org: &Org) -> Result<bool, Tab
 
 // Inserts the organisation in place of the one with its slug.
 fn replace_org<S: Alter>(tx: &mut Transaction<'_, S>, org: &Org) -> Result<(), TableFault>
-    ensures writes { Writes S.Store tx.old.conn tx.new.conn result (Changes (λ t. record t { orgs = delete_where (λ other. is_called org.now.slug other) t.orgs ++ org.now ∷ [] })) }
+    ensures writes { WritesWithin S.Store tx.old.conn tx.new.conn result (Changes (λ t. record t { orgs = delete_where (λ other. is_called org.now.slug other) t.orgs ++ org.now ∷ [] })) }
 {
     tx.execute(
         "INSERT OR REPLACE INTO orgs (slug, title, site, keeper) VALUES (?1, ?2, ?3, ?4)",
@@ -65,7 +65,7 @@ fn replace_org<S: Alter>(tx: &mut Transaction<'_, S>, org: &Org) -> Result<(), T
 
 /// Inserts the organisation, or replaces the one with its slug.
 pub fn put_org<S: Alter>(tx: &mut Transaction<'_, S>, org: &Org) -> Result<(), TableFault>
-    ensures writes { Writes S.Store tx.old.conn tx.new.conn result (Changes (λ t. record t { orgs = delete_where (λ other. is_called org.now.slug other) t.orgs ++ org.now ∷ [] })) }
+    ensures writes { WritesWithin S.Store tx.old.conn tx.new.conn result (Changes (λ t. record t { orgs = delete_where (λ other. is_called org.now.slug other) t.orgs ++ org.now ∷ [] })) }
 {
     if add_org(tx, org)? {
         return Ok(());
@@ -88,7 +88,7 @@ pub fn find_org<S: Alter>(
     tx: &mut Transaction<'_, S>,
     slug: &Slug,
 ) -> Result<Option<Org>, TableFault>
-    ensures reads { Reads S.Store tx.old.conn tx.new.conn result Holds (λ t found. found ≡ find (is_called slug.now) t.orgs) }
+    ensures reads { ReadsWithin S.Store tx.old.conn tx.new.conn result Holds (λ t found. found ≡ find (is_called slug.now) t.orgs) }
 {
     let rows = org_rows(tx, slug)?;
     first_from(alloc, &rows)
@@ -108,7 +108,7 @@ pub fn list_orgs<S: Alter>(
     alloc: Global,
     tx: &mut Transaction<'_, S>,
 ) -> Result<Vec<Org>, TableFault>
-    ensures reads { Reads S.Store tx.old.conn tx.new.conn result Holds (λ t all. all.items ≡ sort_by by_slug t.orgs) }
+    ensures reads { ReadsWithin S.Store tx.old.conn tx.new.conn result Holds (λ t all. all.items ≡ sort_by by_slug t.orgs) }
 {
     let rows = all_rows(tx)?;
     all_from(alloc, &rows)

@@ -3,7 +3,7 @@
 ghost use Rattle.std.specs.Prelude.{◌≡◌, map, filter, find};
 ghost use Rattle.sqlite_keyed.specs.Keyed.{insert_by};
 ghost use Rattle.registry_rows.specs.Rows.{reason_key, reason_shown, is_reason_of};
-ghost use Rattle.registry_rows.specs.Steps.{Changes, Reads, ReadsRows, Writes};
+ghost use Rattle.registry_rows.specs.Steps.{Changes, ReadsWithin, ReadsRows, WritesWithin};
 ghost use Rattle.registry_rows.specs.Tables.{Holds};
 
 use crate::columns::{number_at, text_at};
@@ -31,7 +31,7 @@ pub fn put_reason<S: Alter>(
     petition: u32,
     reason: &Title,
 ) -> Result<(), TableFault>
-    ensures writes { Writes S.Store tx.old.conn tx.new.conn result (Changes (λ t. record t { reasons = insert_by reason_key t.reasons (petition, reason.now) })) }
+    ensures writes { WritesWithin S.Store tx.old.conn tx.new.conn result (Changes (λ t. record t { reasons = insert_by reason_key t.reasons (petition, reason.now) })) }
 {
     tx.execute(
         "INSERT INTO reasons4 (petition, reason) VALUES (?1, ?2)",
@@ -55,7 +55,7 @@ pub fn find_reason<S: Alter>(
     tx: &mut Transaction<'_, S>,
     petition: u32,
 ) -> Result<Option<(u32, Title)>, TableFault>
-    ensures reads { Reads S.Store tx.old.conn tx.new.conn result Holds (λ t found. found ≡ find (is_reason_of petition) t.reasons) }
+    ensures reads { ReadsWithin S.Store tx.old.conn tx.new.conn result Holds (λ t found. found ≡ find (is_reason_of petition) t.reasons) }
 {
     let rows = reason_rows(tx, petition)?;
     first_from(alloc, &rows)

@@ -4,7 +4,7 @@ ghost use Rattle.std.specs.Prelude.{◌≡◌, ◌≢◌, [], ◌∷◌, ◌++�
 ghost use Rattle.sqlite_keyed.specs.Lists.{delete_where, sort_by};
 ghost use Rattle.registry_rows.specs.Rows.{IsVendorSpan, whole, span_row, begins_at, meets, by_beginning};
 ghost use Rattle.registry_rows.specs.Columns.{HasColumns};
-ghost use Rattle.registry_rows.specs.Steps.{Changes, Decodes, Reads, ReadsRows, Writes};
+ghost use Rattle.registry_rows.specs.Steps.{Changes, Decodes, ReadsWithin, ReadsRows, WritesWithin};
 ghost use Rattle.registry_rows.specs.Tables.{Holds};
 
 use crate::columns::{span_at, vid_at};
@@ -40,7 +40,7 @@ pub fn put_span<S: Alter>(
     vid: Vid,
     span: Span,
 ) -> Result<(), TableFault>
-    ensures writes { Writes S.Store tx.old.conn tx.new.conn result (Changes (λ t. record t { spans = delete_where (λ other. begins_at vid span.first other) t.spans ++ (vid, span) ∷ [] })) }
+    ensures writes { WritesWithin S.Store tx.old.conn tx.new.conn result (Changes (λ t. record t { spans = delete_where (λ other. begins_at vid span.first other) t.spans ++ (vid, span) ∷ [] })) }
 {
     tx.execute(
         "INSERT OR REPLACE INTO spans3 (vid, lo, hi) VALUES (?1, ?2, ?3)",
@@ -60,7 +60,7 @@ pub fn cut_spans<S: Alter>(
     low: u32,
     high: u32,
 ) -> Result<(), TableFault>
-    ensures writes { Writes S.Store tx.old.conn tx.new.conn result (Changes (λ t. record t { spans = delete_where (meets vid low high) t.spans })) }
+    ensures writes { WritesWithin S.Store tx.old.conn tx.new.conn result (Changes (λ t. record t { spans = delete_where (meets vid low high) t.spans })) }
 {
     tx.execute(
         "DELETE FROM spans3 WHERE vid = ?1 AND hi >= ?2 AND lo <= ?3",
@@ -91,7 +91,7 @@ pub fn find_spans<S: Alter>(
     low: u32,
     high: u32,
 ) -> Result<Vec<(Vid, Span)>, TableFault>
-    ensures reads { Reads S.Store tx.old.conn tx.new.conn result Holds (λ t all. all.items ≡ sort_by by_beginning (filter (meets vid low high) t.spans)) }
+    ensures reads { ReadsWithin S.Store tx.old.conn tx.new.conn result Holds (λ t all. all.items ≡ sort_by by_beginning (filter (meets vid low high) t.spans)) }
 {
     let rows = meeting_rows(tx, vid, low, high)?;
     all_from(alloc, &rows)
@@ -111,7 +111,7 @@ pub fn list_spans<S: Alter>(
     alloc: Global,
     tx: &mut Transaction<'_, S>,
 ) -> Result<Vec<(Vid, Span)>, TableFault>
-    ensures reads { Reads S.Store tx.old.conn tx.new.conn result Holds (λ t all. all.items ≡ sort_by by_beginning t.spans) }
+    ensures reads { ReadsWithin S.Store tx.old.conn tx.new.conn result Holds (λ t all. all.items ≡ sort_by by_beginning t.spans) }
 {
     let rows = all_rows(tx)?;
     all_from(alloc, &rows)

@@ -3,7 +3,7 @@
 ghost use Rattle.std.specs.Prelude.{◌≡◌, map, filter, find};
 ghost use Rattle.sqlite_keyed.specs.Keyed.{insert_by};
 ghost use Rattle.registry_rows.specs.Rows.{time_key, time_shown, is_time_of};
-ghost use Rattle.registry_rows.specs.Steps.{Changes, Reads, ReadsRows, Writes};
+ghost use Rattle.registry_rows.specs.Steps.{Changes, ReadsWithin, ReadsRows, WritesWithin};
 ghost use Rattle.registry_rows.specs.Tables.{Holds};
 
 use crate::columns::{number_at, text_at};
@@ -31,7 +31,7 @@ pub fn put_opened<S: Alter>(
     petition: u32,
     time: &Time,
 ) -> Result<(), TableFault>
-    ensures writes { Writes S.Store tx.old.conn tx.new.conn result (Changes (λ t. record t { opened = insert_by time_key t.opened (petition, time.now) })) }
+    ensures writes { WritesWithin S.Store tx.old.conn tx.new.conn result (Changes (λ t. record t { opened = insert_by time_key t.opened (petition, time.now) })) }
 {
     tx.execute(
         "INSERT INTO opened5 (petition, time) VALUES (?1, ?2)",
@@ -55,7 +55,7 @@ pub fn find_opened<S: Alter>(
     tx: &mut Transaction<'_, S>,
     petition: u32,
 ) -> Result<Option<(u32, Time)>, TableFault>
-    ensures reads { Reads S.Store tx.old.conn tx.new.conn result Holds (λ t found. found ≡ find (is_time_of petition) t.opened) }
+    ensures reads { ReadsWithin S.Store tx.old.conn tx.new.conn result Holds (λ t found. found ≡ find (is_time_of petition) t.opened) }
 {
     let rows = opened_rows(tx, petition)?;
     first_from(alloc, &rows)
@@ -67,7 +67,7 @@ pub fn put_closed<S: Alter>(
     petition: u32,
     time: &Time,
 ) -> Result<(), TableFault>
-    ensures writes { Writes S.Store tx.old.conn tx.new.conn result (Changes (λ t. record t { closed = insert_by time_key t.closed (petition, time.now) })) }
+    ensures writes { WritesWithin S.Store tx.old.conn tx.new.conn result (Changes (λ t. record t { closed = insert_by time_key t.closed (petition, time.now) })) }
 {
     tx.execute(
         "INSERT INTO closed5 (petition, time) VALUES (?1, ?2)",
@@ -91,7 +91,7 @@ pub fn find_closed<S: Alter>(
     tx: &mut Transaction<'_, S>,
     petition: u32,
 ) -> Result<Option<(u32, Time)>, TableFault>
-    ensures reads { Reads S.Store tx.old.conn tx.new.conn result Holds (λ t found. found ≡ find (is_time_of petition) t.closed) }
+    ensures reads { ReadsWithin S.Store tx.old.conn tx.new.conn result Holds (λ t found. found ≡ find (is_time_of petition) t.closed) }
 {
     let rows = closed_rows(tx, petition)?;
     first_from(alloc, &rows)

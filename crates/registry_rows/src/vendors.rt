@@ -3,7 +3,7 @@
 ghost use Rattle.std.specs.Prelude.{◌≡◌, map};
 ghost use Rattle.sqlite_keyed.specs.Keyed.{insert_by};
 ghost use Rattle.registry_rows.specs.Rows.{vendor_key, vendor_shown};
-ghost use Rattle.registry_rows.specs.Steps.{Changes, Reads, ReadsRows, Writes};
+ghost use Rattle.registry_rows.specs.Steps.{Changes, ReadsWithin, ReadsRows, WritesWithin};
 ghost use Rattle.registry_rows.specs.Tables.{Holds};
 
 use crate::columns::{text_at, vid_at};
@@ -35,7 +35,7 @@ pub fn put_vendor<S: Alter>(
     vid: Vid,
     name: &Title,
 ) -> Result<(), TableFault>
-    ensures writes { Writes S.Store tx.old.conn tx.new.conn result (Changes (λ t. record t { vendors = insert_by vendor_key t.vendors (record { vid = vid; name = name.now }) })) }
+    ensures writes { WritesWithin S.Store tx.old.conn tx.new.conn result (Changes (λ t. record t { vendors = insert_by vendor_key t.vendors (record { vid = vid; name = name.now }) })) }
 {
     tx.execute(
         "INSERT OR REPLACE INTO vendors (vid, name) VALUES (?1, ?2)",
@@ -55,7 +55,7 @@ pub fn list_vendors<S: Alter>(
     alloc: Global,
     tx: &mut Transaction<'_, S>,
 ) -> Result<Vec<Vendor>, TableFault>
-    ensures reads { Reads S.Store tx.old.conn tx.new.conn result Holds (λ t all. all.items ≡ t.vendors) }
+    ensures reads { ReadsWithin S.Store tx.old.conn tx.new.conn result Holds (λ t all. all.items ≡ t.vendors) }
 {
     let rows = all_rows(tx)?;
     all_from(alloc, &rows)

@@ -6,10 +6,10 @@ use Rattle.sqlite.specs.declared.error.ErrorCode.TheVariants.{OutOfMemory}
 use Rattle.registry_schema.specs.declared.fault.TableFault.{TableFault}
 use Rattle.registry_schema.specs.declared.fault.TableFault.TheVariants.{Store, NoMemory, Foreign}
 
-abbrev pub fault_text : TableFault → List ℕ
-fault_text Store = codes "the store failed"
-fault_text NoMemory = codes "out of memory"
-fault_text Foreign = codes "not the tables of a registry"
+abbrev pub table_fault_text : TableFault → List ℕ
+table_fault_text Store = codes "the store failed"
+table_fault_text NoMemory = codes "out of memory"
+table_fault_text Foreign = codes "not the tables of a registry"
 
 -- the fault that an error of the store means: out of memory if the error says so, and never Foreign
 abbrev pub IsFaultOf : Error → TableFault → Type 0

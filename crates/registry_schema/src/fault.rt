@@ -1,7 +1,7 @@
 //! Why a call on the tables fails.
 
 ghost use Rattle.std.specs.Prelude.{◌≡◌, ◌≢◌, ◌↔◌, Some};
-ghost use Rattle.registry_schema.specs.Faults.{fault_text};
+ghost use Rattle.registry_schema.specs.Faults.{table_fault_text};
 
 use sqlite::{Error, ErrorCode};
 use std::fmt;
@@ -19,7 +19,7 @@ pub enum TableFault {
 
 /// The fault in a few words.
 impl fmt::Display for TableFault {
-    ghost output = { λ fault. Some (fault_text fault) };
+    ghost output = { λ fault. Some (table_fault_text fault) };
 
     fn fmt<W: fmt::Write>(&self, f: &mut fmt::Formatter<W>) -> fmt::Result {
         f.write_str(match self {

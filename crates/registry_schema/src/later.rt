@@ -1,7 +1,7 @@
 //! The tables that the later schemas add to a store, which may have rows.
 
 ghost use Rattle.std.specs.Prelude.{[], ◌∷◌};
-ghost use Rattle.registry_schema.specs.Schema.{schema_1, schema_2, past_vendors, past_spans3, past_entries3, schema_3, past_digests4, schema_4, past_opened5, spans, vendors, spans3, entries3, petitions3, digests4, reasons4, opened5, closed5};
+ghost use Rattle.registry_schema.specs.Schema.{schema_1, schema_2, past_vendors, past_spans3, past_entries3, schema_3, past_digests4, schema_4, past_opened5, spans_table, vendors_table, spans3_table, entries3_table, petitions3_table, digests4_table, reasons4_table, opened5_table, closed5_table};
 ghost use Rattle.registry_schema.specs.Steps.{WritesTables};
 ghost use Rattle.table_laws.specs.Making.{AddsTo};
 
@@ -10,7 +10,7 @@ use sqlite::{Alter, Transaction};
 
 /// Creates the table that the second schema adds.
 pub fn add_second<S: Alter>(tx: &mut Transaction<'_, S>) -> Result<(), TableFault>
-    ensures writes { WritesTables S.Store tx.old.conn tx.new.conn result (AddsTo schema_1 (spans ∷ [])) }
+    ensures writes { WritesTables S.Store tx.old.conn tx.new.conn result (AddsTo schema_1 (spans_table ∷ [])) }
 {
     tx.execute(
         "CREATE TABLE spans (lo INTEGER PRIMARY KEY, hi INTEGER NOT NULL) STRICT",
@@ -20,7 +20,7 @@ pub fn add_second<S: Alter>(tx: &mut Transaction<'_, S>) -> Result<(), TableFaul
 }
 
 fn create_vendors<S: Alter>(tx: &mut Transaction<'_, S>) -> Result<(), TableFault>
-    ensures writes { WritesTables S.Store tx.old.conn tx.new.conn result (AddsTo schema_2 (vendors ∷ [])) }
+    ensures writes { WritesTables S.Store tx.old.conn tx.new.conn result (AddsTo schema_2 (vendors_table ∷ [])) }
 {
     tx.execute(
         "CREATE TABLE vendors (vid INTEGER PRIMARY KEY, name TEXT NOT NULL) STRICT",
@@ -30,7 +30,7 @@ fn create_vendors<S: Alter>(tx: &mut Transaction<'_, S>) -> Result<(), TableFaul
 }
 
 fn create_spans3<S: Alter>(tx: &mut Transaction<'_, S>) -> Result<(), TableFault>
-    ensures writes { WritesTables S.Store tx.old.conn tx.new.conn result (AddsTo past_vendors (spans3 ∷ [])) }
+    ensures writes { WritesTables S.Store tx.old.conn tx.new.conn result (AddsTo past_vendors (spans3_table ∷ [])) }
 {
     tx.execute(
         "CREATE TABLE spans3 (vid INTEGER NOT NULL, lo INTEGER NOT NULL, hi INTEGER NOT NULL, PRIMARY KEY (vid, lo)) STRICT",
@@ -40,7 +40,7 @@ fn create_spans3<S: Alter>(tx: &mut Transaction<'_, S>) -> Result<(), TableFault
 }
 
 fn create_entries3<S: Alter>(tx: &mut Transaction<'_, S>) -> Result<(), TableFault>
-    ensures writes { WritesTables S.Store tx.old.conn tx.new.conn result (AddsTo past_spans3 (entries3 ∷ [])) }
+    ensures writes { WritesTables S.Store tx.old.conn tx.new.conn result (AddsTo past_spans3 (entries3_table ∷ [])) }
 {
     tx.execute(
         "CREATE TABLE entries3 (vid INTEGER NOT NULL, pid INTEGER NOT NULL, org TEXT NOT NULL, held INTEGER NOT NULL, title TEXT NOT NULL, licence TEXT, site TEXT, source TEXT, PRIMARY KEY (vid, pid)) STRICT",
@@ -50,7 +50,7 @@ fn create_entries3<S: Alter>(tx: &mut Transaction<'_, S>) -> Result<(), TableFau
 }
 
 fn create_petitions3<S: Alter>(tx: &mut Transaction<'_, S>) -> Result<(), TableFault>
-    ensures writes { WritesTables S.Store tx.old.conn tx.new.conn result (AddsTo past_entries3 (petitions3 ∷ [])) }
+    ensures writes { WritesTables S.Store tx.old.conn tx.new.conn result (AddsTo past_entries3 (petitions3_table ∷ [])) }
 {
     tx.execute(
         "CREATE TABLE petitions3 (id INTEGER PRIMARY KEY, vid INTEGER NOT NULL, org TEXT NOT NULL, want INTEGER, title TEXT NOT NULL, licence TEXT NOT NULL, site TEXT NOT NULL, source TEXT NOT NULL, state INTEGER NOT NULL, pid INTEGER) STRICT",
@@ -61,7 +61,7 @@ fn create_petitions3<S: Alter>(tx: &mut Transaction<'_, S>) -> Result<(), TableF
 
 /// Creates the tables that the third schema adds.
 pub fn add_third<S: Alter>(tx: &mut Transaction<'_, S>) -> Result<(), TableFault>
-    ensures writes { WritesTables S.Store tx.old.conn tx.new.conn result (AddsTo schema_2 (vendors ∷ spans3 ∷ entries3 ∷ petitions3 ∷ [])) }
+    ensures writes { WritesTables S.Store tx.old.conn tx.new.conn result (AddsTo schema_2 (vendors_table ∷ spans3_table ∷ entries3_table ∷ petitions3_table ∷ [])) }
 {
     create_vendors(tx)?;
     create_spans3(tx)?;
@@ -71,7 +71,7 @@ pub fn add_third<S: Alter>(tx: &mut Transaction<'_, S>) -> Result<(), TableFault
 }
 
 fn create_digests4<S: Alter>(tx: &mut Transaction<'_, S>) -> Result<(), TableFault>
-    ensures writes { WritesTables S.Store tx.old.conn tx.new.conn result (AddsTo schema_3 (digests4 ∷ [])) }
+    ensures writes { WritesTables S.Store tx.old.conn tx.new.conn result (AddsTo schema_3 (digests4_table ∷ [])) }
 {
     tx.execute(
         "CREATE TABLE digests4 (id INTEGER PRIMARY KEY, time TEXT, digest TEXT NOT NULL) STRICT",
@@ -81,7 +81,7 @@ fn create_digests4<S: Alter>(tx: &mut Transaction<'_, S>) -> Result<(), TableFau
 }
 
 fn create_reasons4<S: Alter>(tx: &mut Transaction<'_, S>) -> Result<(), TableFault>
-    ensures writes { WritesTables S.Store tx.old.conn tx.new.conn result (AddsTo past_digests4 (reasons4 ∷ [])) }
+    ensures writes { WritesTables S.Store tx.old.conn tx.new.conn result (AddsTo past_digests4 (reasons4_table ∷ [])) }
 {
     tx.execute(
         "CREATE TABLE reasons4 (petition INTEGER PRIMARY KEY, reason TEXT NOT NULL) STRICT",
@@ -92,7 +92,7 @@ fn create_reasons4<S: Alter>(tx: &mut Transaction<'_, S>) -> Result<(), TableFau
 
 /// Creates the tables that the fourth schema adds.
 pub fn add_fourth<S: Alter>(tx: &mut Transaction<'_, S>) -> Result<(), TableFault>
-    ensures writes { WritesTables S.Store tx.old.conn tx.new.conn result (AddsTo schema_3 (digests4 ∷ reasons4 ∷ [])) }
+    ensures writes { WritesTables S.Store tx.old.conn tx.new.conn result (AddsTo schema_3 (digests4_table ∷ reasons4_table ∷ [])) }
 {
     create_digests4(tx)?;
     create_reasons4(tx)?;
@@ -100,7 +100,7 @@ pub fn add_fourth<S: Alter>(tx: &mut Transaction<'_, S>) -> Result<(), TableFaul
 }
 
 fn create_opened5<S: Alter>(tx: &mut Transaction<'_, S>) -> Result<(), TableFault>
-    ensures writes { WritesTables S.Store tx.old.conn tx.new.conn result (AddsTo schema_4 (opened5 ∷ [])) }
+    ensures writes { WritesTables S.Store tx.old.conn tx.new.conn result (AddsTo schema_4 (opened5_table ∷ [])) }
 {
     tx.execute(
         "CREATE TABLE opened5 (petition INTEGER PRIMARY KEY, time TEXT NOT NULL) STRICT",
@@ -110,7 +110,7 @@ fn create_opened5<S: Alter>(tx: &mut Transaction<'_, S>) -> Result<(), TableFaul
 }
 
 fn create_closed5<S: Alter>(tx: &mut Transaction<'_, S>) -> Result<(), TableFault>
-    ensures writes { WritesTables S.Store tx.old.conn tx.new.conn result (AddsTo past_opened5 (closed5 ∷ [])) }
+    ensures writes { WritesTables S.Store tx.old.conn tx.new.conn result (AddsTo past_opened5 (closed5_table ∷ [])) }
 {
     tx.execute(
         "CREATE TABLE closed5 (petition INTEGER PRIMARY KEY, time TEXT NOT NULL) STRICT",
@@ -121,7 +121,7 @@ fn create_closed5<S: Alter>(tx: &mut Transaction<'_, S>) -> Result<(), TableFaul
 
 /// Creates the tables that the fifth schema adds.
 pub fn add_fifth<S: Alter>(tx: &mut Transaction<'_, S>) -> Result<(), TableFault>
-    ensures writes { WritesTables S.Store tx.old.conn tx.new.conn result (AddsTo schema_4 (opened5 ∷ closed5 ∷ [])) }
+    ensures writes { WritesTables S.Store tx.old.conn tx.new.conn result (AddsTo schema_4 (opened5_table ∷ closed5_table ∷ [])) }
 {
     create_opened5(tx)?;
     create_closed5(tx)?;
@@ -130,7 +130,7 @@ pub fn add_fifth<S: Alter>(tx: &mut Transaction<'_, S>) -> Result<(), TableFault
 
 /// Creates the tables that the fourth and the fifth schema add, for a store of the third.
 pub fn add_fourth_and_fifth<S: Alter>(tx: &mut Transaction<'_, S>) -> Result<(), TableFault>
-    ensures writes { WritesTables S.Store tx.old.conn tx.new.conn result (AddsTo schema_3 (digests4 ∷ reasons4 ∷ opened5 ∷ closed5 ∷ [])) }
+    ensures writes { WritesTables S.Store tx.old.conn tx.new.conn result (AddsTo schema_3 (digests4_table ∷ reasons4_table ∷ opened5_table ∷ closed5_table ∷ [])) }
 {
     add_fourth(tx)?;
     add_fifth(tx)?;
@@ -139,7 +139,7 @@ pub fn add_fourth_and_fifth<S: Alter>(tx: &mut Transaction<'_, S>) -> Result<(),
 
 /// Creates the tables that the third, the fourth and the fifth schema add, for a store of the second.
 pub fn add_third_to_fifth<S: Alter>(tx: &mut Transaction<'_, S>) -> Result<(), TableFault>
-    ensures writes { WritesTables S.Store tx.old.conn tx.new.conn result (AddsTo schema_2 (vendors ∷ spans3 ∷ entries3 ∷ petitions3 ∷ digests4 ∷ reasons4 ∷ opened5 ∷ closed5 ∷ [])) }
+    ensures writes { WritesTables S.Store tx.old.conn tx.new.conn result (AddsTo schema_2 (vendors_table ∷ spans3_table ∷ entries3_table ∷ petitions3_table ∷ digests4_table ∷ reasons4_table ∷ opened5_table ∷ closed5_table ∷ [])) }
 {
     add_third(tx)?;
     add_fourth_and_fifth(tx)?;

@@ -15,7 +15,7 @@ use Rattle.registry_tables.specs.Rows.{newest}
 use Rattle.registry_store.specs.declared.fault.Fault.{Fault}
 use Rattle.registry_store.specs.declared.fault.Fault.TheVariants as of
 use Rattle.registry_store.specs.declared.registry.Registry.{Registry}
-use Rattle.registry_store.specs.Faults.{fault_of, is_foreign}
+use Rattle.registry_store.specs.Faults.{fault_of, is_foreign_fault}
 use Rattle.registry_store.specs.Promise.{IsAt, IsLegalWith, NotesForeign, Represents, has_met_foreign, is_poisoned, poisoned_by, state_of}
 use Rattle.registry_store.specs.Queries.{IsNoted, IsQuery, IsUntouched}
 use Rattle.registry_store.proofs.OpeningLemmas.{earlier, rows_now, still_at}
@@ -53,10 +53,10 @@ swap true true c = refl
 swap true false c = refl
 swap false b c = refl
 
-noted : {S : Type 0} {g : Ghosts S} (it new : Registry S g) → poisoned_by new ≡ poisoned_by it → (fault : Option Fault) → new.foreign ≡ (is_foreign fault || it.foreign) → NotesForeign it new fault
+noted : {S : Type 0} {g : Ghosts S} (it new : Registry S g) → poisoned_by new ≡ poisoned_by it → (fault : Option Fault) → new.foreign ≡ (is_foreign_fault fault || it.foreign) → NotesForeign it new fault
 noted it new same fault is =
-    ap (λ (b : Bool). is_foreign (poisoned_by new) || b) is
-    ∙ (swap (is_foreign (poisoned_by new)) (is_foreign fault) it.foreign ∙ ap (λ (f : Option Fault). is_foreign fault || (is_foreign f || it.foreign)) same)
+    ap (λ (b : Bool). is_foreign_fault (poisoned_by new) || b) is
+    ∙ (swap (is_foreign_fault (poisoned_by new)) (is_foreign_fault fault) it.foreign ∙ ap (λ (f : Option Fault). is_foreign_fault fault || (is_foreign_fault f || it.foreign)) same)
 
 module _ {S : Type 0} {g : Ghosts S} {it new : Registry S g} {A : Type 0} {Is : History → A → Type 0} (sound : is_poisoned it ≡ false) (totals : new.summary ≡ it.summary) (fault : poisoned_by new ≡ poisoned_by it) where
   left : (found : Result A TableFault) → IsLookUp (state_of it) (state_of new) found Is → IsUntouched it new
@@ -81,7 +81,7 @@ module _ {S : Type 0} {g : Ghosts S} {it new : Registry S g} {A : Type 0} {Is : 
     notes = noted it new fault None note;
   }
 
-  failed_by : (was : TableFault) → IsLookUp (state_of it) (state_of new) (Err was) Is → new.foreign ≡ (is_foreign (Some (fault_of was)) || it.foreign) → IsQuery it new (Err (fault_of was)) Is
+  failed_by : (was : TableFault) → IsLookUp (state_of it) (state_of new) (Err was) Is → new.foreign ≡ (is_foreign_fault (Some (fault_of was)) || it.foreign) → IsQuery it new (Err (fault_of was)) Is
   failed_by was looked note = record {
     when_poisoned = λ is. absurd cc;
     only_poisoned = λ is. absurd (never_poisoned was cc);
@@ -93,11 +93,11 @@ module _ {S : Type 0} {g : Ghosts S} {it new : Registry S g} {A : Type 0} {Is : 
   }
 
   told : (found : Result A TableFault) (result : Result A Fault) → IsLookUp (state_of it) (state_of new) found Is
-      → MatchResult found (λ value. result ≡ Ok value) (λ fault. result ≡ Err (fault_of fault)) → new.foreign ≡ (is_foreign (result_err result) || it.foreign) → IsQuery it new result Is
+      → MatchResult found (λ value. result ≡ Ok value) (λ fault. result ≡ Err (fault_of fault)) → new.foreign ≡ (is_foreign_fault (result_err result) || it.foreign) → IsQuery it new result Is
   told (Ok found) result looked is =
-      subst (λ (r : Result A Fault). new.foreign ≡ (is_foreign (result_err r) || it.foreign) → IsQuery it new r Is) (sym is) (found_by found looked)
+      subst (λ (r : Result A Fault). new.foreign ≡ (is_foreign_fault (result_err r) || it.foreign) → IsQuery it new r Is) (sym is) (found_by found looked)
   told (Err was) result looked is =
-      subst (λ (r : Result A Fault). new.foreign ≡ (is_foreign (result_err r) || it.foreign) → IsQuery it new r Is) (sym is) (failed_by was looked)
+      subst (λ (r : Result A Fault). new.foreign ≡ (is_foreign_fault (result_err r) || it.foreign) → IsQuery it new r Is) (sym is) (failed_by was looked)
 
 -- a look-up whose fault is noted is a query
 pub queried : {S : Type 0} {g : Ghosts S} {it mid new : Registry S g} {A : Type 0} {Is : History → A → Type 0} {found : Result A TableFault} {result : Result A Fault} → is_poisoned it ≡ false → mid.summary ≡ it.summary → poisoned_by mid ≡ poisoned_by it
@@ -105,15 +105,15 @@ pub queried : {S : Type 0} {g : Ghosts S} {it mid new : Registry S g} {A : Type 
 queried {S} {g} {it} {mid} {new} {A} {Is} {found} {result} sound totals fault foreign looked note =
     told sound (note.same_summary ∙ totals) (note.same_fault ∙ fault) found result
     (subst (λ (c : Held S). IsLookUp (state_of it) (state g c) found Is) (sym note.same_connection) looked) note.told
-    (note.foreign ∙ ap (λ (b : Bool). is_foreign (result_err result) || b) foreign)
+    (note.foreign ∙ ap (λ (b : Bool). is_foreign_fault (result_err result) || b) foreign)
 
-no_fault : (fault : Option Fault) → is_some fault ≡ false → is_foreign fault ≡ false
+no_fault : (fault : Option Fault) → is_some fault ≡ false → is_foreign_fault fault ≡ false
 no_fault None is = refl
 no_fault (Some fault) is = absurd cc
 
 -- what an `act` notes with its fault: the registry was not poisoned before
-pub not_met : {S : Type 0} {g : Ghosts S} (it : Registry S g) (fault : Fault) → is_poisoned it ≡ false → (is_foreign (Some fault) || has_met_foreign it) ≡ (is_foreign (Some fault) || it.foreign)
-not_met it fault sound = ap (λ (b : Bool). is_foreign (Some fault) || (b || it.foreign)) (no_fault (poisoned_by it) sound)
+pub not_met : {S : Type 0} {g : Ghosts S} (it : Registry S g) (fault : Fault) → is_poisoned it ≡ false → (is_foreign_fault (Some fault) || has_met_foreign it) ≡ (is_foreign_fault (Some fault) || it.foreign)
+not_met it fault sound = ap (λ (b : Bool). is_foreign_fault (Some fault) || (b || it.foreign)) (no_fault (poisoned_by it) sound)
 
 -- a registry that stays as it is
 pub untouched_itself : {S : Type 0} {g : Ghosts S} (it : Registry S g) → IsUntouched it it
@@ -121,7 +121,7 @@ untouched_itself it = record { stays = λ h stands. stands; poisons_nothing = re
 
 -- what a call notes after one without a fault
 pub notes_then : {S : Type 0} {g : Ghosts S} (it mid new : Registry S g) (fault : Option Fault) → NotesForeign it mid None → NotesForeign mid new fault → NotesForeign it new fault
-notes_then it mid new fault a b = b ∙ ap (λ (met : Bool). is_foreign fault || met) a
+notes_then it mid new fault a b = b ∙ ap (λ (met : Bool). is_foreign_fault fault || met) a
 
 -- ---- what is made of a query
 

@@ -14,13 +14,13 @@ fault_of tables.NoMemory = faults.NoMemory
 fault_of tables.Foreign = faults.Foreign
 
 -- whether there is a fault that says that the tables hold the rows of no history
-abbrev pub is_foreign : Option Fault → Bool
-is_foreign None = false
-is_foreign (Some faults.Store) = false
-is_foreign (Some faults.NoMemory) = false
-is_foreign (Some faults.Foreign) = true
-is_foreign (Some faults.Taken) = false
-is_foreign (Some faults.Poisoned) = false
+abbrev pub is_foreign_fault : Option Fault → Bool
+is_foreign_fault None = false
+is_foreign_fault (Some faults.Store) = false
+is_foreign_fault (Some faults.NoMemory) = false
+is_foreign_fault (Some faults.Foreign) = true
+is_foreign_fault (Some faults.Taken) = false
+is_foreign_fault (Some faults.Poisoned) = false
 
 abbrev pub fault_text : Fault → List ℕ
 fault_text faults.Store = codes "the store failed"

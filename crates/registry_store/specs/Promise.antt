@@ -14,7 +14,7 @@ use Rattle.registry_rules.specs.TotalsOf.{AreTotalsOf}
 use Rattle.registry_tables.specs.Rows.{Rows, newest}
 use Rattle.registry_store.specs.declared.fault.Fault.{Fault}
 use Rattle.registry_store.specs.declared.registry.Registry.{Registry}
-use Rattle.registry_store.specs.Faults.{is_foreign}
+use Rattle.registry_store.specs.Faults.{is_foreign_fault}
 
 -- each database that a crash may now leave holds the rows of one of these histories, in this schema
 abbrev pub Leaves : ℕ → State → (History → Type 0) → Type 0
@@ -72,12 +72,12 @@ module _ {S : Type 0} {g : Ghosts S} where
 
   -- an `act` or a query found that the tables hold the rows of no history
   abbrev pub has_met_foreign : Registry S g → Bool
-  has_met_foreign it = is_foreign (poisoned_by it) || it.foreign
+  has_met_foreign it = is_foreign_fault (poisoned_by it) || it.foreign
 
   -- A call with this fault, or without one, leaves a note of it: the call found that the tables hold the rows of no history, or
   -- an earlier one did. So a caller that hides this fault is found out, whatever the store holds.
   abbrev pub NotesForeign : Registry S g → Registry S g → Option Fault → Type 0
-  NotesForeign it new fault = has_met_foreign new ≡ (is_foreign fault || has_met_foreign it)
+  NotesForeign it new fault = has_met_foreign new ≡ (is_foreign_fault fault || has_met_foreign it)
 
   -- a registry that was just founded or opened: it is not poisoned, and has not met the rows of no history
   pub record IsNew (it : Registry S g) : Type 0 where

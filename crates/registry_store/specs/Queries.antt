@@ -9,7 +9,7 @@ use Rattle.registry_rules.specs.History.{History}
 use Rattle.registry_store.specs.declared.fault.Fault.{Fault}
 use Rattle.registry_store.specs.declared.fault.Fault.TheVariants as of
 use Rattle.registry_store.specs.declared.registry.Registry.{Registry}
-use Rattle.registry_store.specs.Faults.{fault_of, is_foreign}
+use Rattle.registry_store.specs.Faults.{fault_of, is_foreign_fault}
 use Rattle.registry_store.specs.Promise.{NotesForeign, Represents, is_poisoned, poisoned_by, state_of}
 
 module _ {S : Type 0} {g : Ghosts S} (it new : Registry S g) where
@@ -24,7 +24,7 @@ module _ {S : Type 0} {g : Ghosts S} (it new : Registry S g) where
     pub same_connection : new.conn ≡ it.conn
     pub same_summary : new.summary ≡ it.summary
     pub same_fault : poisoned_by new ≡ poisoned_by it
-    pub foreign : new.foreign ≡ (is_foreign (result_err result) || it.foreign)
+    pub foreign : new.foreign ≡ (is_foreign_fault (result_err result) || it.foreign)
     pub told : MatchResult found (λ value. result ≡ Ok value) (λ fault. result ≡ Err (fault_of fault))
 
   -- A query: over a clean disk the result is that of each history that the registry represented, and a fault is of the store

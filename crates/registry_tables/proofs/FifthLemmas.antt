@@ -4,7 +4,7 @@ use Rattle.sqlite.specs.Effect.{Database}
 use Rattle.sqlite.specs.State.{State, IsUnchanged}
 use Rattle.sqlite_keyed.specs.Keyed.{insert_by}
 use Rattle.table_laws.specs.Making.{HasMore}
-use Rattle.registry_schema.specs.Schema.{schema_4, opened5, closed5}
+use Rattle.registry_schema.specs.Schema.{schema_4, opened5_table, closed5_table}
 use Rattle.registry_rules.specs.History.{History}
 use Rattle.registry_rows.specs.declared.meta.Meta.{Meta}
 use Rattle.registry_rows.specs.Rows.{meta_key}
@@ -28,7 +28,7 @@ abbrev pub untimed : Tables → Tables
 untimed t = record t { opened = []; closed = [] }
 
 -- the new tables exist and are empty
-pub fifth_begins : (a b : Database) (t : Tables) → HasMore schema_4 (opened5 ∷ closed5 ∷ []) a b → HoldsFourth a t → Holds b (untimed t)
+pub fifth_begins : (a b : Database) (t : Tables) → HasMore schema_4 (opened5_table ∷ closed5_table ∷ []) a b → HoldsFourth a t → Holds b (untimed t)
 fifth_begins a b t more has =
     let kept = agree_4 b.trees a.trees t more.kept has.rows in
     record {
@@ -66,7 +66,7 @@ held_fourth db h (t, inr (inr (inr (inl fourth))), had, kept) = (t, fourth.1, ha
 held_fourth db h (t, inr (inr (inr (inr fifth))), had, kept) = absurd (let e = fifth.0 in omega (arith, e))
 
 -- the calls of the step in order
-module _ (a s1 : State) (one : a.now.schema ≡ schema_4 → HasMore schema_4 (opened5 ∷ closed5 ∷ []) a.now s1.now) where
+module _ (a s1 : State) (one : a.now.schema ≡ schema_4 → HasMore schema_4 (opened5_table ∷ closed5_table ∷ []) a.now s1.now) where
   begun : (t : Tables) → IsFourth a.now t → Holds s1.now (untimed (with_version 4 t))
   begun t is = fifth_begins a.now s1.now (with_version 4 t) (one is.holds.schema) is.holds
 

@@ -27,7 +27,7 @@ use Rattle.registry_rules.proofs.NoRepeatLemmas.{licences_once}
 use Rattle.registry_rules.proofs.RunLemmas.{legal_licences}
 use Rattle.registry_rows.specs.declared.kept.KeptRow.{KeptRow}
 use Rattle.registry_rows.specs.Rows.{has_reply_within}
-use Rattle.registry_rows.specs.Steps.{Reads}
+use Rattle.registry_rows.specs.Steps.{ReadsWithin}
 use Rattle.registry_rows.specs.Tables.{Holds, replies}
 use Rattle.registry_tables.specs.Finds.{ReadsHistory}
 use Rattle.registry_tables.specs.FirstLicences.{is_reply_of, was_added}
@@ -145,7 +145,7 @@ first_is h legal rows is names first allowed sorted =
 
 pub first_tell : {S : Type 0} {g : Ghosts S} {a b : MutBor (Held S)} (names : List (List ℕ)) {rows : Vec KeptRow Global} (result : Result (List (List ℕ)) TableFault)
     → IfOk result (λ left. AreSorted (filter (λ licence. not (was_added rows.items licence)) names) left) → result ≢ Err Foreign
-    → Reads g a b (Ok rows) Holds (λ t all. all.items ≡ filter names_licence (replies t))
+    → ReadsWithin g a b (Ok rows) Holds (λ t all. all.items ≡ filter names_licence (replies t))
     → ReadsHistory g a b result (λ h first. ((licence : List ℕ) → list_any (bytes_eq licence) names ≡ is_licence h licence) → first ≡ h.founding.licences)
 first_tell names {rows} (Ok first) sorted kind = rows_pass (λ h t legal has had kept is allowed.
     first_is h legal rows.items (is ∙ ap (filter names_licence) (ap (map (λ (k : ℤ × KeptRow). k.1)) kept.in_order ∙ numbered_values 1 (map kept_row_of (accepted_of h.deeds)))) names first allowed sorted)

@@ -4,7 +4,7 @@ use Rattle.sqlite.specs.Effect.{Database}
 use Rattle.sqlite.specs.State.{State, IsUnchanged}
 use Rattle.sqlite_keyed.specs.Keyed.{insert_by}
 use Rattle.table_laws.specs.Making.{HasMore}
-use Rattle.registry_schema.specs.Schema.{schema_3, digests4, reasons4, opened5, closed5}
+use Rattle.registry_schema.specs.Schema.{schema_3, digests4_table, reasons4_table, opened5_table, closed5_table}
 use Rattle.registry_rules.specs.History.{History}
 use Rattle.registry_rows.specs.declared.meta.Meta.{Meta}
 use Rattle.registry_rows.specs.Rows.{meta_key}
@@ -24,7 +24,7 @@ use Rattle.registry_tables.proofs.RaiseLemmas.{step_refused, step_reached, meta_
 use Rattle.registry_tables.proofs.ThirdLemmas.{meta_by}
 
 -- the new tables exist and are empty
-pub fourth_begins : (a b : Database) (t : Tables) → HasMore schema_3 (digests4 ∷ reasons4 ∷ opened5 ∷ closed5 ∷ []) a b → HoldsThird a t → Holds b (undigested t)
+pub fourth_begins : (a b : Database) (t : Tables) → HasMore schema_3 (digests4_table ∷ reasons4_table ∷ opened5_table ∷ closed5_table ∷ []) a b → HoldsThird a t → Holds b (undigested t)
 fourth_begins a b t more has =
     let kept = agree_3 b.trees a.trees t more.kept has.rows in
     record {
@@ -62,7 +62,7 @@ held_third db h (t, inr (inr (inr (inl fourth))), had, kept) = absurd (let e = f
 held_third db h (t, inr (inr (inr (inr fifth))), had, kept) = absurd (let e = fifth.0 in omega (arith, e))
 
 -- the calls of the step in order
-module _ (a s1 : State) (one : a.now.schema ≡ schema_3 → HasMore schema_3 (digests4 ∷ reasons4 ∷ opened5 ∷ closed5 ∷ []) a.now s1.now) where
+module _ (a s1 : State) (one : a.now.schema ≡ schema_3 → HasMore schema_3 (digests4_table ∷ reasons4_table ∷ opened5_table ∷ closed5_table ∷ []) a.now s1.now) where
   begun : (t : Tables) → IsThird a.now t → Holds s1.now (undigested (with_version 3 t))
   begun t is = fourth_begins a.now s1.now (with_version 3 t) (one is.holds.schema) is.holds
 

@@ -11,7 +11,7 @@ use Rattle.registry_schema.specs.declared.fault.TableFault.{TableFault}
 use Rattle.registry_schema.specs.declared.fault.TableFault.TheVariants.{Foreign}
 use Rattle.registry_rows.specs.declared.meta.Meta.{Meta}
 use Rattle.registry_old_rows.specs.Steps.{Second, IsHeld}
-use Rattle.registry_rows.specs.Steps.{Tells, Reads}
+use Rattle.registry_rows.specs.Steps.{Tells, ReadsWithin}
 use Rattle.registry_rows.specs.Tables.{Tables, Holds}
 use Rattle.registry_rows.proofs.StepLemmas.{reads_by}
 use Rattle.registry_tables.proofs.NewestLemmas.{last_passes}
@@ -57,8 +57,8 @@ module _ (version : ℕ) (old new : State) (all : List Meta) (read : GoesOn old 
 
 -- a fault that refutes each held store refutes each marked one
 pub fails_marked : {S : Type 0} {g : Ghosts S} {a b : MutBor (Held S)} {A B : Type 0} {version : ℕ} {Says : Second → A → Type 0} {Also : Second → B → Type 0} {e : TableFault} {r : Result B TableFault} → r ≡ Err e
-    → Reads g a b (Err e) IsHeld Says → Reads g a b r (IsMarked version) Also
-fails_marked {S} {g} {a} {b} {A} {B} {version} {Says} {Also} {e} {r} is read = subst (λ r. Reads g a b r (IsMarked version) Also) (sym is) (reads_by (λ read. (λ foreign. (let none = read.0 foreign in (none.0, λ x marked. none.1 x marked.held)), read.1, λ is x marked. read.2 is x marked.held)) read)
+    → ReadsWithin g a b (Err e) IsHeld Says → ReadsWithin g a b r (IsMarked version) Also
+fails_marked {S} {g} {a} {b} {A} {B} {version} {Says} {Also} {e} {r} is read = subst (λ r. ReadsWithin g a b r (IsMarked version) Also) (sym is) (reads_by (λ read. (λ foreign. (let none = read.0 foreign in (none.0, λ x marked. none.1 x marked.held)), read.1, λ is x marked. read.2 is x marked.held)) read)
 
 -- ---- the same once the tables of the newest schema are there, while meta still names this version
 
@@ -98,5 +98,5 @@ module _ (version : ℕ) (old new : State) (all : List Meta) (read : GoesOn old 
       (λ _. (read.0, λ x marked. (let it = read.1 x.tables marked.held in absurd (none (subst (λ l. 0 < length l) (sym (it.1 ∙ marked.only)) (omega arith))))), inl read.0, λ is. absurd cc)
 
 pub fails_newest : {S : Type 0} {g : Ghosts S} {a b : MutBor (Held S)} {A B : Type 0} {version : ℕ} {Says : Tables → A → Type 0} {Also : Raised → B → Type 0} {e : TableFault} {r : Result B TableFault} → r ≡ Err e
-    → Reads g a b (Err e) Holds Says → Reads g a b r (IsMarkedNewest version) Also
-fails_newest {S} {g} {a} {b} {A} {B} {version} {Says} {Also} {e} {r} is read = subst (λ r. Reads g a b r (IsMarkedNewest version) Also) (sym is) (reads_by (λ read. (λ foreign. (let none = read.0 foreign in (none.0, λ x marked. none.1 x.tables marked.held)), read.1, λ is x marked. read.2 is x.tables marked.held)) read)
+    → ReadsWithin g a b (Err e) Holds Says → ReadsWithin g a b r (IsMarkedNewest version) Also
+fails_newest {S} {g} {a} {b} {A} {B} {version} {Says} {Also} {e} {r} is read = subst (λ r. ReadsWithin g a b r (IsMarkedNewest version) Also) (sym is) (reads_by (λ read. (λ foreign. (let none = read.0 foreign in (none.0, λ x marked. none.1 x.tables marked.held)), read.1, λ is x marked. read.2 is x.tables marked.held)) read)

@@ -12,7 +12,7 @@ use Rattle.registry_schema.specs.declared.fault.TableFault.{TableFault}
 use Rattle.registry_schema.specs.declared.fault.TableFault.TheVariants.{Foreign}
 use Rattle.registry_rows.specs.declared.meta.Meta.{Meta}
 use Rattle.registry_rules.specs.History.{History}
-use Rattle.registry_rows.specs.Steps.{Reads}
+use Rattle.registry_rows.specs.Steps.{ReadsWithin}
 use Rattle.registry_rows.specs.Tables.{Holds}
 use Rattle.registry_tables.specs.Finds.{ReadsHistory}
 use Rattle.registry_tables.specs.Rows.{newest, meta_of}
@@ -30,7 +30,7 @@ last_passes p xs x is = grind (arith, list_any-append p xs (x ∷ []), is)
 -- the last row read is the row of meta, if its version is the newest
 pub meta_told : {S : Type 0} {g : Ghosts S} {a b : MutBor (Held S)} {all : Vec Meta Global} (rest : List Meta) (meta : Meta) → all.items ≡ rest ++ meta ∷ [] → (result : Result Meta TableFault)
     → MatchResult result (λ same. (same ≡ meta) × (meta.version ≡ newest)) (λ fault. (fault ≡ Foreign) × (meta.version ≢ newest))
-    → Reads g a b (Ok all) Holds (λ t all. all.items ≡ t.metas) → ReadsHistory g a b result (λ h m. m ≡ meta_of h)
+    → ReadsWithin g a b (Ok all) Holds (λ t all. all.items ≡ t.metas) → ReadsHistory g a b result (λ h m. m ≡ meta_of h)
 meta_told rest meta is (Ok m) says rows = rows_pass (λ h t legal has had kept same. says.0 ∙ only_meta h t had rest meta (sym same ∙ is)) rows
 meta_told {S} {g} {a} {b} rest meta is (Err e) says rows =
     subst (λ e. ReadsHistory g a b (Err e) (λ (h : History) (m : Meta). m ≡ meta_of h)) (sym says.0) (rows_refuse (λ h t legal has had same. says.1 (ap (λ (m : Meta). m.version) (only_meta h t had rest meta (sym same ∙ is)))) rows)

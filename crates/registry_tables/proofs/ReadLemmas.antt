@@ -19,7 +19,7 @@ use Rattle.registry_rules.specs.Run.{Legal}
 use Rattle.registry_rules.specs.declared.record.Org.{Org}
 use Rattle.registry_rules.specs.declared.record.Entry.{Entry}
 use Rattle.registry_rows.specs.Rows.{by_slug, by_number, by_beginning}
-use Rattle.registry_rows.specs.Steps.{Reads}
+use Rattle.registry_rows.specs.Steps.{ReadsWithin}
 use Rattle.registry_rows.specs.Tables.{Tables, Holds}
 use Rattle.registry_tables.specs.Finds.{ReadsHistory, ReadsHistoryOpen, TellsStore}
 use Rattle.registry_tables.specs.Lists.{IsOrgList, IsNumberList}
@@ -47,7 +47,7 @@ module _ {S : Type 0} {g : Ghosts S} {a b : MutBor (Held S)} {A : Type 0} {P : H
 -- from the tables to a history
 module _ {S : Type 0} {g : Ghosts S} {a b : MutBor (Held S)} {A B : Type 0} {Says : Tables → A → Type 0} {Is : History → B → Type 0} where
   -- what the rows say is what the history says
-  pub rows_pass : {x : A} {y : B} → ((h : History) (t : Tables) → Legal h → Holds (state g a.now).now t → AreRecords h t → AreKeptReplies h t.kept → Says t x → Is h y) → Reads g a b (Ok x) Holds Says → ReadsHistory g a b (Ok y) Is
+  pub rows_pass : {x : A} {y : B} → ((h : History) (t : Tables) → Legal h → Holds (state g a.now).now t → AreRecords h t → AreKeptReplies h t.kept → Says t x → Is h y) → ReadsWithin g a b (Ok x) Holds Says → ReadsHistory g a b (Ok y) Is
   rows_pass {x} {y} means rows = record {
     same_reference = rows.same_reference;
     found = λ clean inside. passes (state g a.now) (state g b.now) Is (λ t. Says t x) y means (rows.told clean inside);
@@ -55,7 +55,7 @@ module _ {S : Type 0} {g : Ghosts S} {a b : MutBor (Held S)} {A B : Type 0} {Say
   }
 
   -- the same, where the record counts
-  pub recorded_pass : {x : A} {y : B} → ((h : History) (t : Tables) → Legal h → IsRecorded h t → Says t x → Is h y) → Reads g a b (Ok x) Holds Says → ReadsHistory g a b (Ok y) Is
+  pub recorded_pass : {x : A} {y : B} → ((h : History) (t : Tables) → Legal h → IsRecorded h t → Says t x → Is h y) → ReadsWithin g a b (Ok x) Holds Says → ReadsHistory g a b (Ok y) Is
   recorded_pass {x} {y} means rows = record {
     same_reference = rows.same_reference;
     found = λ clean inside. passes_recorded (state g a.now) (state g b.now) Is (λ t. Says t x) y means (rows.told clean inside);
@@ -63,33 +63,33 @@ module _ {S : Type 0} {g : Ghosts S} {a b : MutBor (Held S)} {A B : Type 0} {Say
   }
 
   -- or it refutes every history
-  pub rows_refuse : {x : A} → ((h : History) (t : Tables) → Legal h → Holds (state g a.now).now t → AreRecords h t → ¬ Says t x) → Reads g a b (Ok x) Holds Says → ReadsHistory g a b (Err Foreign) Is
+  pub rows_refuse : {x : A} → ((h : History) (t : Tables) → Legal h → Holds (state g a.now).now t → AreRecords h t → ¬ Says t x) → ReadsWithin g a b (Ok x) Holds Says → ReadsHistory g a b (Err Foreign) Is
   rows_refuse {x} never rows =
       record { same_reference = rows.same_reference; found = λ clean inside. refuses (state g a.now) (state g b.now) Is (λ t. Says t x) never (rows.told clean inside); survives = rows.survives }
 
   -- a fault of the rows, and one that comes after them
-  pub rows_fail : {e : TableFault} {r : Result B TableFault} → r ≡ Err e → Reads g a b (Err e) Holds Says → ReadsHistory g a b r Is
+  pub rows_fail : {e : TableFault} {r : Result B TableFault} → r ≡ Err e → ReadsWithin g a b (Err e) Holds Says → ReadsHistory g a b r Is
   rows_fail {e} {r} is rows = subst (λ r. ReadsHistory g a b r Is) (sym is)
       (record { same_reference = rows.same_reference; found = λ clean inside. fails (state g a.now) (state g b.now) Is e (rows.told clean inside); survives = rows.survives })
 
-  pub rows_short : {x : A} {e : TableFault} → e ≢ Foreign → Reads g a b (Ok x) Holds Says → ReadsHistory g a b (Err e) Is
+  pub rows_short : {x : A} {e : TableFault} → e ≢ Foreign → ReadsWithin g a b (Ok x) Holds Says → ReadsHistory g a b (Err e) Is
   rows_short {x} {e} other rows =
       record { same_reference = rows.same_reference; found = λ clean inside. short (state g a.now) (state g b.now) Is e other (rows.told clean inside).0; survives = rows.survives }
 
 -- the same of any result
 pub rows_tell : {S : Type 0} {g : Ghosts S} {a b : MutBor (Held S)} {A : Type 0} {Says : Tables → A → Type 0} {Is : History → A → Type 0} {r : Result A TableFault}
-    → ((h : History) (t : Tables) → Legal h → Holds (state g a.now).now t → AreRecords h t → (x : A) → Says t x → Is h x) → Reads g a b r Holds Says → ReadsHistory g a b r Is
+    → ((h : History) (t : Tables) → Legal h → Holds (state g a.now).now t → AreRecords h t → (x : A) → Says t x → Is h x) → ReadsWithin g a b r Holds Says → ReadsHistory g a b r Is
 rows_tell {S} {g} {a} {b} {A} {Says} {Is} {r} means rows =
     record { same_reference = rows.same_reference; found = λ clean inside. tells (state g a.now) (state g b.now) r Says Is means (rows.told clean inside); survives = rows.survives }
 
 -- Store comes from the rows only if the store failed, whatever is made of them
-pub rows_store : {S : Type 0} {g : Ghosts S} {a b : MutBor (Held S)} {A : Type 0} {Says : Tables → A → Type 0} {r : Result A TableFault} → Reads g a b r Holds Says → TellsStore g a b r
+pub rows_store : {S : Type 0} {g : Ghosts S} {a b : MutBor (Held S)} {A : Type 0} {Says : Tables → A → Type 0} {r : Result A TableFault} → ReadsWithin g a b r Holds Says → TellsStore g a b r
 rows_store {S} {g} {a} {b} {A} {Says} {r} rows = record { store = λ clean inside. store_told (state g a.now) (state g b.now) r Says (rows.told clean inside) }
 
 pub passes_store : {S : Type 0} {g : Ghosts S} {a b : MutBor (Held S)} {A B : Type 0} {e : TableFault} {r : Result B TableFault} → r ≡ Err e → TellsStore g a b {A = A} (Err e) → TellsStore g a b r
 passes_store {S} {g} {a} {b} {A} {B} {e} {r} of tells = record { store = λ clean inside is. (let same : e ≡ Store = cc in tells.store clean inside (ap Err same)) }
 
-pub fault_store : {S : Type 0} {g : Ghosts S} {a b : MutBor (Held S)} {A B : Type 0} {Says : Tables → A → Type 0} {e : TableFault} {r : Result B TableFault} → r ≡ Err e → Reads g a b (Err e) Holds Says → TellsStore g a b r
+pub fault_store : {S : Type 0} {g : Ghosts S} {a b : MutBor (Held S)} {A B : Type 0} {Says : Tables → A → Type 0} {e : TableFault} {r : Result B TableFault} → r ≡ Err e → ReadsWithin g a b (Err e) Holds Says → TellsStore g a b r
 fault_store of rows = passes_store of (rows_store rows)
 
 module _ {S : Type 0} {g : Ghosts S} {a b c : MutBor (Held S)} {A : Type 0} {P : History → A → Type 0} {x : A} where
@@ -172,22 +172,22 @@ module _ {S : Type 0} {g : Ghosts S} {a b : MutBor (Held S)} {A B : Type 0} {P :
 
 -- the tables that the totals are made of
 module _ {S : Type 0} {g : Ghosts S} {a b : MutBor (Held S)} where
-  pub orgs_read : {all : Vec Org Global} → Reads g a b (Ok all) Holds (λ t all. all.items ≡ sort_by by_slug t.orgs) → ReadsHistoryOpen g a b (Ok all) (λ h all. IsOrgList h all.items)
+  pub orgs_read : {all : Vec Org Global} → ReadsWithin g a b (Ok all) Holds (λ t all. all.items ≡ sort_by by_slug t.orgs) → ReadsHistoryOpen g a b (Ok all) (λ h all. IsOrgList h all.items)
   orgs_read {all} rows = opened (rows_tell (λ h t legal has had all is. org_list h t.orgs had.orgs all.items is) rows)
 
-  pub entries_read : {all : Vec (NumberValue × Entry) Global} → Reads g a b (Ok all) Holds (λ t all. all.items ≡ sort_by by_number t.entries) → ReadsHistoryOpen g a b (Ok all) (λ h all. IsNumberList h all.items)
+  pub entries_read : {all : Vec (NumberValue × Entry) Global} → ReadsWithin g a b (Ok all) Holds (λ t all. all.items ≡ sort_by by_number t.entries) → ReadsHistoryOpen g a b (Ok all) (λ h all. IsNumberList h all.items)
   entries_read {all} rows = opened (rows_tell (λ h t legal has had all is. number_list h t.entries had.entries all.items is) rows)
 
-  pub spans_read : {all : Vec (ℕ × Span) Global} → Reads g a b (Ok all) Holds (λ t all. all.items ≡ sort_by by_beginning t.spans)
+  pub spans_read : {all : Vec (ℕ × Span) Global} → ReadsWithin g a b (Ok all) Holds (λ t all. all.items ≡ sort_by by_beginning t.spans)
       → ReadsHistoryOpen g a b (Ok all) (λ h all. (n : NumberValue) → list_any (vendor_span_has n) all.items ≡ is_reserved_by_order h n)
   spans_read {all} rows = opened (rows_tell (λ h t legal has had all is. spans_told h t had all.items is) rows)
 
   -- a fault, whatever would have been read
-  pub rows_fault : {A : Type 0} {Says : Tables → A → Type 0} {e : TableFault} → Reads g a b (Err e) Holds Says → ReadsHistoryOpen g a b (Err e) (λ (h : History) (x : Bool). IsTrue x)
+  pub rows_fault : {A : Type 0} {Says : Tables → A → Type 0} {e : TableFault} → ReadsWithin g a b (Err e) Holds Says → ReadsHistoryOpen g a b (Err e) (λ (h : History) (x : Bool). IsTrue x)
   rows_fault rows = opened (rows_fail refl rows)
 
   -- the fixed numbers, as a set
   pub fixed_tell : {all : Vec Span Global} (result : Result (List Span) TableFault) → (IsSpread 1 all.items → IfOk result (λ set. set ≡ all.items)) → result ≢ Err Foreign
-      → Reads g a b (Ok all) Holds (λ t all. all.items ≡ t.fixed) → ReadsHistory g a b result (λ h fixed. fixed ≡ h.founding.fixed)
+      → ReadsWithin g a b (Ok all) Holds (λ t all. all.items ≡ t.fixed) → ReadsHistory g a b result (λ h fixed. fixed ≡ h.founding.fixed)
   fixed_tell (Ok set) same kind = rows_pass (λ h t legal has had kept is. (let founded = is ∙ had.fixed in same (subst (IsSpread 1) (sym founded) had.founding.fixed) ∙ founded))
   fixed_tell (Err e) same kind = rows_short (λ foreign. kind (ap Err foreign))

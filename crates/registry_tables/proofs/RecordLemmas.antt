@@ -19,7 +19,7 @@ use Rattle.registry_rules.specs.declared.accepted.Accepted.{Accepted}
 use Rattle.registry_rules.specs.declared.deed.Deed.{Deed}
 use Rattle.registry_rows.specs.declared.digests.DigestRow.{DigestRow}
 use Rattle.registry_rows.specs.declared.kept.KeptRow.{KeptRow}
-use Rattle.registry_rows.specs.Steps.{Reads}
+use Rattle.registry_rows.specs.Steps.{ReadsWithin}
 use Rattle.registry_rows.specs.Rows.{is_after, is_digest_after}
 use Rattle.registry_rows.specs.Tables.{Holds, replies_after}
 use Rattle.registry_rows.proofs.StepLemmas.{valid_part}
@@ -46,13 +46,13 @@ abbrev AreTimed : ℕ → ℕ → History → Vec (ℕ × DigestRow) Global → 
 AreTimed most after h digests = AreValid h.deeds → map time_kept digests.items ≡ map time_asked (take most (drop after (accepted_of h.deeds)))
 
 page_read : {S : Type 0} {g : Ghosts S} {a b : MutBor (Held S)} (most after : ℕ) {rows : Vec KeptRow Global}
-    → Reads g a b (Ok rows) Holds (λ t all. all.items ≡ take most (replies_after after t)) → ReadsHistory g a b (Ok rows) (ArePage most after)
+    → ReadsWithin g a b (Ok rows) Holds (λ t all. all.items ≡ take most (replies_after after t)) → ReadsHistory g a b (Ok rows) (ArePage most after)
 page_read most after = rows_pass (λ h t legal has had kept is.
     is ∙ ap (λ (rows : List (ℤ × KeptRow)). take most (map (λ (k : ℤ × KeptRow). k.1) (filter (is_after after) rows))) kept.in_order
     ∙ ap (take most) (replies_past after (map kept_row_of (accepted_of h.deeds))))
 
 times_read : {S : Type 0} {g : Ghosts S} {a b : MutBor (Held S)} (most after : ℕ) {digests : Vec (ℕ × DigestRow) Global}
-    → Reads g a b (Ok digests) Holds (λ t all. all.items ≡ take most (filter (is_digest_after after) t.digests)) → ReadsHistory g a b (Ok digests) (AreTimed most after)
+    → ReadsWithin g a b (Ok digests) Holds (λ t all. all.items ≡ take most (filter (is_digest_after after) t.digests)) → ReadsHistory g a b (Ok digests) (AreTimed most after)
 times_read most after = recorded_pass (λ h t legal recorded is valid.
     ap (map time_kept) is ∙ sym (take-map time_kept most (filter (is_digest_after after) t.digests))
     ∙ ap (λ (rows : List (ℕ × DigestRow)). take most (map time_kept (filter (is_digest_after after) rows))) (recorded.digests legal valid)
@@ -68,7 +68,7 @@ module _ {S : Type 0} {g : Ghosts S} {a b c : MutBor (Held S)} (most after : ℕ
   -- the list that is made of the rows and their digests
   pub accepted_tell : {digests : Vec (ℕ × DigestRow) Global} (result : Result (Vec Accepted Global) TableFault)
       → ((values : List Accepted) → AllByRecursion HasValidOrder values → rows.items ≡ map kept_row_of values → map time_kept digests.items ≡ map time_asked values → IfOk result (λ all. all.items ≡ values)) → result ≢ Err Foreign
-      → Reads g a b (Ok rows) Holds (λ t all. all.items ≡ take most (replies_after after t)) → Reads g b c (Ok digests) Holds (λ t all. all.items ≡ take most (filter (is_digest_after after) t.digests))
+      → ReadsWithin g a b (Ok rows) Holds (λ t all. all.items ≡ take most (replies_after after t)) → ReadsWithin g b c (Ok digests) Holds (λ t all. all.items ≡ take most (filter (is_digest_after after) t.digests))
       → ReadsHistory g a c result (λ h list. AreValid h.deeds → list.items ≡ take most (drop after (accepted_of h.deeds)))
   accepted_tell (Ok list) reads kind page times =
       makes (λ h legal it valid.
@@ -78,8 +78,8 @@ module _ {S : Type 0} {g : Ghosts S} {a b c : MutBor (Held S)} (most after : ℕ
   accepted_tell (Err e) reads kind page times = fails_short (λ foreign. kind (ap Err foreign)) (then_open (page_read most after page) (opened (times_read most after times)))
 
   -- the digests cannot be read
-  pub times_fail : {e : TableFault} {r : Result (Vec Accepted Global) TableFault} → r ≡ Err e → Reads g a b (Ok rows) Holds (λ t all. all.items ≡ take most (replies_after after t))
-      → Reads g b c {A = Vec (ℕ × DigestRow) Global} (Err e) Holds (λ t all. all.items ≡ take most (filter (is_digest_after after) t.digests))
+  pub times_fail : {e : TableFault} {r : Result (Vec Accepted Global) TableFault} → r ≡ Err e → ReadsWithin g a b (Ok rows) Holds (λ t all. all.items ≡ take most (replies_after after t))
+      → ReadsWithin g b c {A = Vec (ℕ × DigestRow) Global} (Err e) Holds (λ t all. all.items ≡ take most (filter (is_digest_after after) t.digests))
       → ReadsHistory g a c r (λ h list. AreValid h.deeds → list.items ≡ take most (drop after (accepted_of h.deeds)))
   times_fail is page times = fails_open is (page_read most after page) (opened (rows_fail {Is = AreTimed most after} refl times))
 

@@ -9,7 +9,7 @@ use Rattle.usbnum_core.specs.Number.{IsId}
 use Rattle.usbnum_core.specs.Spans.{spans_have, IsSpread}
 use Rattle.usbnum_core.specs.declared.number.Number.{Number}
 use Rattle.usbnum_core.specs.declared.number.Span.{Span}
-use Rattle.registry_schema.specs.Schema.{schema_1, spans}
+use Rattle.registry_schema.specs.Schema.{schema_1, spans_table}
 use Rattle.registry_schema.specs.declared.fault.TableFault.{TableFault}
 use Rattle.registry_schema.specs.declared.fault.TableFault.TheVariants.{Foreign}
 use Rattle.registry_rules.specs.History.{History}
@@ -32,7 +32,7 @@ use Rattle.registry_tables.proofs.ThirdLemmas.{meta_by}
 abbrev pub unspanned : Tables → Tables
 unspanned t = record t { spans = [] }
 
-pub second_begins : (vid : ℕ) (a b : Database) (t : Tables) (numbers : List ℕ) → HasMore schema_1 (spans ∷ []) a b → HoldsFirst vid a t numbers → HoldsSecond vid b (unspanned t) numbers
+pub second_begins : (vid : ℕ) (a b : Database) (t : Tables) (numbers : List ℕ) → HasMore schema_1 (spans_table ∷ []) a b → HoldsFirst vid a t numbers → HoldsSecond vid b (unspanned t) numbers
 second_begins vid a b t numbers more has =
     let first = agree_1 vid b.trees a.trees t numbers more.kept has.rows in
     record {
@@ -80,7 +80,7 @@ marked_first db h (t, inr (inr (inr (inr fifth))), had, kept) = absurd (let e = 
 abbrev begun_values : History → Tables → List ℕ → Second
 begun_values h t numbers = record { vid = h.founding.vendor; tables = unspanned (with_version 1 t); numbers = numbers }
 
-module _ (a s1 : State) (one : a.now.schema ≡ schema_1 → HasMore schema_1 (spans ∷ []) a.now s1.now) where
+module _ (a s1 : State) (one : a.now.schema ≡ schema_1 → HasMore schema_1 (spans_table ∷ []) a.now s1.now) where
   begun_marked : (h : History) (t : Tables) (first : IsFirst h.founding.vendor a.now t) → AreRecords h t → IsMarked 1 s1.now (begun_values h t first.numbers)
   begun_marked h t first had = record {
     held = second_begins h.founding.vendor a.now s1.now (with_version 1 t) first.numbers (one first.holds.schema) first.holds;

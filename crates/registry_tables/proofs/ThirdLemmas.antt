@@ -3,7 +3,7 @@ use Rattle.std.proofs.Common.{◌≡◌, ℕ, inl, inr, List, [], ◌∷◌, map
 use Rattle.sqlite.specs.Effect.{Database}
 use Rattle.sqlite.specs.State.{State, IsUnchanged}
 use Rattle.sqlite_keyed.specs.Keyed.{insert_by}
-use Rattle.registry_schema.specs.Schema.{schema_2, vendors, spans3, entries3, petitions3, digests4, reasons4, opened5, closed5}
+use Rattle.registry_schema.specs.Schema.{schema_2, vendors_table, spans3_table, entries3_table, petitions3_table, digests4_table, reasons4_table, opened5_table, closed5_table}
 use Rattle.registry_rules.specs.History.{History}
 use Rattle.registry_rows.specs.declared.meta.Meta.{Meta}
 use Rattle.registry_rows.specs.Rows.{meta_key, vendor_key}
@@ -22,7 +22,7 @@ use Rattle.registry_tables.specs.Versions.{IsSecond, HoldsOf}
 use Rattle.registry_tables.specs.Raising.{emptied, moved, IsMarked, Raises}
 
 -- the new tables exist and are empty
-pub third_begins : (vid : ℕ) (a b : Database) (o : Tables) → HasMore schema_2 (vendors ∷ spans3 ∷ entries3 ∷ petitions3 ∷ digests4 ∷ reasons4 ∷ opened5 ∷ closed5 ∷ []) a b → HoldsSecond vid a o [] → HoldsBoth vid b o (emptied o)
+pub third_begins : (vid : ℕ) (a b : Database) (o : Tables) → HasMore schema_2 (vendors_table ∷ spans3_table ∷ entries3_table ∷ petitions3_table ∷ digests4_table ∷ reasons4_table ∷ opened5_table ∷ closed5_table ∷ []) a b → HoldsSecond vid a o [] → HoldsBoth vid b o (emptied o)
 third_begins vid a b o more has = record {
   schema = more.is;
   sound = more.sound;
@@ -97,7 +97,7 @@ as_marked db h t second had = record { held = second.holds; meta = at_version 2 
 
 -- the calls of the step in order
 module _ (a s1 s2 s3 s4 s5 : State) (meta : Meta) (one : (x : Second) → IsMarked 2 a.now x → IsUnchanged a s1 × (x.tables.metas ≡ meta ∷ []))
-    (two : s1.now.schema ≡ schema_2 → HasMore schema_2 (vendors ∷ spans3 ∷ entries3 ∷ petitions3 ∷ digests4 ∷ reasons4 ∷ opened5 ∷ closed5 ∷ []) s1.now s2.now)
+    (two : s1.now.schema ≡ schema_2 → HasMore schema_2 (vendors_table ∷ spans3_table ∷ entries3_table ∷ petitions3_table ∷ digests4_table ∷ reasons4_table ∷ opened5_table ∷ closed5_table ∷ []) s1.now s2.now)
     (three : (o : Tables) → HoldsBoth meta.vendor s2.now o (emptied o) → HoldsBoth meta.vendor s3.now (moved o) (bare o))
     (four : (t : Tables) → Holds s3.now t → Holds s4.now (record t { vendors = insert_by vendor_key t.vendors (record { vid = meta.vendor; name = meta.name }) }))
     (five : (t : Tables) → Holds s4.now t → Holds s5.now (record t { metas = insert_by meta_key t.metas (meta_by 5 meta.vendor meta.name) })) where

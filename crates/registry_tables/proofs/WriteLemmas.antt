@@ -8,7 +8,7 @@ use Rattle.table_laws.specs.Inside.{GoesOn}
 use Rattle.table_laws.proofs.InsideLemmas.{goes_then}
 use Rattle.registry_schema.specs.declared.fault.TableFault.{TableFault}
 use Rattle.registry_schema.specs.Steps.{WritesTables}
-use Rattle.registry_rows.specs.Steps.{Changes, Writes}
+use Rattle.registry_rows.specs.Steps.{Changes, WritesWithin}
 use Rattle.registry_rows.specs.Tables.{Tables}
 use Rattle.registry_tables.specs.Calls.{WritesTablesOpen}
 use Rattle.registry_tables.proofs.ReadLemmas.{quiet_then}
@@ -23,13 +23,13 @@ ok_as (Err e) means done = tt
 
 module _ {S : Type 0} {g : Ghosts S} {a b : MutBor (Held S)} {A : Type 0} {r : Result A TableFault} where
   -- a write of rows is one of the tables
-  pub written : {Does Also : State → State → Type 0} → (Does (state g a.now) (state g b.now) → Also (state g a.now) (state g b.now)) → Writes g a b r Does → WritesTables g a b r Also
+  pub written : {Does Also : State → State → Type 0} → (Does (state g a.now) (state g b.now) → Also (state g a.now) (state g b.now)) → WritesWithin g a b r Does → WritesTables g a b r Also
   written means one = record { same_reference = one.same_reference; done = λ clean inside. done_as r _ means (one.done clean inside); fault = one.fault; survives = one.survives }
 
-  pub written_open : {Does Also : State → State → Type 0} → (Does (state g a.now) (state g b.now) → Also (state g a.now) (state g b.now)) → Writes g a b r Does → WritesTablesOpen g a b r Also
+  pub written_open : {Does Also : State → State → Type 0} → (Does (state g a.now) (state g b.now) → Also (state g a.now) (state g b.now)) → WritesWithin g a b r Does → WritesTablesOpen g a b r Also
   written_open means one = record { same_reference = one.same_reference; done = λ clean inside _. done_as r _ means (one.done clean inside); fault = one.fault; survives = one.survives }
 
-pub as_tables : {S : Type 0} {g : Ghosts S} {a b : MutBor (Held S)} {A : Type 0} {r : Result A TableFault} {Does : State → State → Type 0} → Writes g a b r Does → WritesTables g a b r Does
+pub as_tables : {S : Type 0} {g : Ghosts S} {a b : MutBor (Held S)} {A : Type 0} {r : Result A TableFault} {Does : State → State → Type 0} → WritesWithin g a b r Does → WritesTables g a b r Does
 as_tables = written (λ done. done)
 
 both_changed : (a b c : State) (f h : Tables → Tables) → Changes f a b → Changes h b c → Changes (λ t. h (f t)) a c

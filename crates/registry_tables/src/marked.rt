@@ -3,7 +3,7 @@
 ghost use Rattle.std.specs.Prelude.{◌≡◌, ◌≢◌, true, [], ◌∷◌, MatchResult, IsTrue, OnOk};
 ghost use Rattle.sqlite.specs.State.{HasCleanDisk};
 ghost use Rattle.sqlite.specs.Held.{state};
-ghost use Rattle.registry_rows.specs.Steps.{Reads};
+ghost use Rattle.registry_rows.specs.Steps.{ReadsWithin};
 ghost use Rattle.registry_rows.specs.Tables.{Tables, Holds};
 ghost use Rattle.registry_tables.specs.Known.{SaysVersion, names_version};
 ghost use Rattle.registry_tables.specs.Raising.{IsMarked, IsMarkedNewest};
@@ -31,7 +31,7 @@ pub(crate) fn old_meta<S: Alter>(
     version: u32,
 ) -> Result<Meta, TableFault>
     ensures named { HasCleanDisk (state S.Store tx.new.conn.now) → IsTrue (state S.Store tx.old.conn.now).in_transaction → OnOk result (SaysVersion version (state S.Store tx.old.conn.now).now) }
-    ensures reads { Reads S.Store tx.old.conn tx.new.conn result (IsMarked version) (λ x meta. x.tables.metas ≡ meta ∷ []) }
+    ensures reads { ReadsWithin S.Store tx.old.conn tx.new.conn result (IsMarked version) (λ x meta. x.tables.metas ≡ meta ∷ []) }
 {
     let mut metas = list_old_metas(alloc, tx)?;
     match metas.pop() {
@@ -49,7 +49,7 @@ pub(crate) fn newest_meta<S: Alter>(
 ) -> Result<Meta, TableFault>
     ensures named { HasCleanDisk (state S.Store tx.new.conn.now) → IsTrue (state S.Store tx.old.conn.now).in_transaction
         → OnOk result ((t : Tables) → Holds (state S.Store tx.old.conn.now).now t → names_version version t ≡ true) }
-    ensures reads { Reads S.Store tx.old.conn tx.new.conn result (IsMarkedNewest version) (λ x meta. x.tables.metas ≡ meta ∷ []) }
+    ensures reads { ReadsWithin S.Store tx.old.conn tx.new.conn result (IsMarkedNewest version) (λ x meta. x.tables.metas ≡ meta ∷ []) }
 {
     let mut metas = list_metas(alloc, tx)?;
     match metas.pop() {

@@ -4,7 +4,7 @@ ghost use Rattle.std.specs.Prelude.{◌≡◌, ◌≢◌, ◌+◌, ◌≤◌, Ma
 ghost use Rattle.sqlite_keyed.specs.Lists.{sort_by};
 ghost use Rattle.registry_schema.specs.Steps.{WritesTables};
 ghost use Rattle.registry_rows.specs.Rows.{meets, by_beginning};
-ghost use Rattle.registry_rows.specs.Steps.{Reads};
+ghost use Rattle.registry_rows.specs.Steps.{ReadsWithin};
 ghost use Rattle.registry_rows.specs.Tables.{Holds};
 ghost use Rattle.registry_tables.specs.Calls.{WritesTablesOpen};
 ghost use Rattle.registry_tables.specs.Changed.{Makes};
@@ -26,7 +26,7 @@ fn spans_meeting<S: Alter>(
     low: u32,
     high: u32,
 ) -> Result<Vec<(Vid, Span)>, TableFault>
-    ensures reads { Reads S.Store tx.old.conn tx.new.conn result Holds (λ t found. found.items ≡ sort_by by_beginning (filter (meets vid low high) t.spans)) }
+    ensures reads { ReadsWithin S.Store tx.old.conn tx.new.conn result Holds (λ t found. found.items ≡ sort_by by_beginning (filter (meets vid low high) t.spans)) }
     ensures kind { result ≢ Err TableFault.Foreign }
 {
     match find_spans(alloc, tx, vid, low, high) {

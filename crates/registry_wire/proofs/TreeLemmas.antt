@@ -8,7 +8,7 @@ use Rattle.toml.specs.Data.{Members}
 use Rattle.toml.specs.Parse.{parse_document}
 use Rattle.registry_wire.specs.declared.refusal.WireRefusal.TheVariants.{BadJson, BadFounding}
 use Rattle.registry_wire.specs.declared.refusal.FoundingFault.TheVariants.{Toml}
-use Rattle.registry_wire.specs.Refusals.{present}
+use Rattle.registry_wire.specs.Refusals.{value_or}
 use Rattle.registry_wire.specs.Founding.{table_of}
 use Rattle.registry_wire.specs.Reading.{object_or_bad, object_of}
 
@@ -25,7 +25,7 @@ pub object_of_read : (bytes : List ℕ) (tree : Data) → IsUtf8 bytes → read 
 unfolding object_of
 object_of_read bytes tree text found = rw (is_utf8-from_IsUtf8 bytes text, found) refl
 
-table_is_bad : (is_text : Bool) (found : Option Members) → (is_text ≡ true → found ≡ None) → present (BadFounding Toml) (cond is_text found None) ≡ Err (BadFounding Toml)
+table_is_bad : (is_text : Bool) (found : Option Members) → (is_text ≡ true → found ≡ None) → value_or (BadFounding Toml) (cond is_text found None) ≡ Err (BadFounding Toml)
 table_is_bad true found none = rw (none refl) refl
 table_is_bad false found none = refl
 

@@ -17,7 +17,7 @@ use Rattle.registry_wire.specs.declared.refusal.WireRefusal.TheVariants.{BadFoun
 use Rattle.registry_wire.specs.declared.refusal.FoundingFault.{FoundingFault}
 use Rattle.registry_wire.specs.declared.refusal.FoundingFault.TheVariants.{Toml, Vendor, Name, Curators, Licences, Fixed}
 use Rattle.registry_rules.specs.Checks.{◌>>=◌}
-use Rattle.registry_wire.specs.Refusals.{present}
+use Rattle.registry_wire.specs.Refusals.{value_or}
 use Rattle.registry_wire.specs.Names.{fault_name}
 use Rattle.registry_wire.specs.Kinds.{slug_of, title_of}
 use Rattle.registry_wire.specs.Spans.{span_of}
@@ -32,14 +32,14 @@ pub record Listed : Type 0 where
 
 -- ---- one value
 
-abbrev pub id_from : Data → Option ℕ
-id_from found = option_and_then number_of (as_str found)
+abbrev pub toml_id : Data → Option ℕ
+toml_id found = option_and_then number_of (as_str found)
 
-abbrev pub slug_from : Data → Option (List ℕ)
-slug_from found = option_and_then slug_of (as_str found)
+abbrev pub toml_slug : Data → Option (List ℕ)
+toml_slug found = option_and_then slug_of (as_str found)
 
-abbrev pub title_from : Data → Option (List ℕ)
-title_from found = option_and_then title_of (as_str found)
+abbrev pub toml_title : Data → Option (List ℕ)
+toml_title found = option_and_then title_of (as_str found)
 
 -- the span from `first`, alone or followed by a hyphen and its last number
 abbrev pub span_after : ℕ → List ℕ → Option Span
@@ -52,8 +52,8 @@ unfoldable pub span_written : List ℕ → Option Span
 span_written (a ∷ b ∷ c ∷ d ∷ rest) = option_and_then (λ first. span_after first rest) (number_of (a ∷ b ∷ c ∷ d ∷ []))
 span_written _ = None
 
-abbrev pub span_from : Data → Option Span
-span_from found = option_and_then span_written (as_str found)
+abbrev pub toml_span : Data → Option Span
+toml_span found = option_and_then span_written (as_str found)
 
 -- ---- the values of the file
 
@@ -62,7 +62,7 @@ abbrev pub value_in : FoundingFault → Members → Option Data
 value_in key table = get_member (fault_name key) table
 
 unfoldable pub one_in : {A : Type 0} → (Data → Option A) → FoundingFault → Members → Result A WireRefusal
-one_in kind key table = present (BadFounding key) (option_and_then kind (value_in key table))
+one_in kind key table = value_or (BadFounding key) (option_and_then kind (value_in key table))
 
 -- the items of an array, if all are of the kind
 unfoldable pub all_of_kind : {A : Type 0} → (Data → Option A) → Items → Option (List A)
@@ -75,23 +75,23 @@ one_to most items = if nat_le 1 (length items) && nat_le (length items) most the
 
 -- an array of one to `most` items of the kind
 unfoldable pub some_in : {A : Type 0} → (Data → Option A) → ℕ → FoundingFault → Members → Result (List A) WireRefusal
-some_in kind most key table = present (BadFounding key) (option_and_then (one_to most) (option_and_then (all_of_kind kind) (option_and_then as_array (value_in key table))))
+some_in kind most key table = value_or (BadFounding key) (option_and_then (one_to most) (option_and_then (all_of_kind kind) (option_and_then as_array (value_in key table))))
 
 abbrev pub spans_if_given : Option Data → Option (List Span)
 spans_if_given None = Some []
-spans_if_given (Some found) = option_and_then (all_of_kind span_from) (as_array found)
+spans_if_given (Some found) = option_and_then (all_of_kind toml_span) (as_array found)
 
 -- the fixed spans, empty if the key is absent
 unfoldable pub fixed_in : Members → Result (List Span) WireRefusal
-fixed_in table = present (BadFounding Fixed) (spans_if_given (value_in Fixed table))
+fixed_in table = value_or (BadFounding Fixed) (spans_if_given (value_in Fixed table))
 
 -- the values, in the order in which they are checked
 unfoldable pub listed_in : Members → Result Listed WireRefusal
 listed_in table = do
-  vendor ← one_in id_from Vendor table
-  name ← one_in title_from Name table
-  curators ← some_in slug_from most_curators Curators table
-  licences ← some_in title_from most_licences Licences table
+  vendor ← one_in toml_id Vendor table
+  name ← one_in toml_title Name table
+  curators ← some_in toml_slug most_curators Curators table
+  licences ← some_in toml_title most_licences Licences table
   fixed ← fixed_in table
   Ok (record { vendor = vendor; name = name; curators = curators; licences = licences; fixed = fixed })
 
@@ -99,7 +99,7 @@ listed_in table = do
 
 -- the TOML table of the bytes
 unfoldable pub table_of : List ℕ → Result Members WireRefusal
-table_of bytes = present (BadFounding Toml) (if is_utf8 bytes then parse_document bytes else None)
+table_of bytes = value_or (BadFounding Toml) (if is_utf8 bytes then parse_document bytes else None)
 
 -- the values that the bytes list, or their first fault
 unfoldable pub founding_listed : List ℕ → Result Listed WireRefusal

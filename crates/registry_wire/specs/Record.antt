@@ -28,7 +28,7 @@ use Rattle.registry_wire.specs.declared.refusal.WireRefusal.TheVariants.{BadFoun
 use Rattle.registry_wire.specs.Founding.{span_written, one_to}
 use Rattle.registry_wire.specs.Names.{fault_name}
 use Rattle.registry_wire.specs.Reading.{slug_from, title_from, id_from, digest_from, field_name, field_in, optional_in, text_in, slug_in, key_in, optional_id_in, time_in, order_in, object_of}
-use Rattle.registry_wire.specs.Refusals.{present}
+use Rattle.registry_wire.specs.Refusals.{value_or}
 
 -- ---- the line of an accepted request
 
@@ -194,7 +194,7 @@ accepted_line_in tree = do
 
 -- the value of a key, or the refusal that the key is bad
 unfoldable pub key_value : {A : Type 0} → (Data → Option A) → FoundingFault → Data → Result A WireRefusal
-key_value kind key tree = present (BadFounding key) (option_and_then kind (get (fault_name key) tree))
+key_value kind key tree = value_or (BadFounding key) (option_and_then kind (get (fault_name key) tree))
 
 abbrev pub span_from : Data → Option Span
 span_from found = option_and_then span_written (as_str found)

@@ -5,9 +5,9 @@ use Rattle.registry_rules.specs.declared.rejection.Rejection.TheVariants.{Refuse
 use Rattle.registry_wire.specs.declared.refusal.WireRefusal.{WireRefusal}
 
 -- the value, or the refusal if there is no value
-abbrev pub present : {A : Type 0} → WireRefusal → Option A → Result A WireRefusal
-present refusal None = Err refusal
-present refusal (Some x) = Ok x
+abbrev pub value_or : {A : Type 0} → WireRefusal → Option A → Result A WireRefusal
+value_or refusal None = Err refusal
+value_or refusal (Some x) = Ok x
 
 -- what the result shows, by `seen`, is the expected value or refusal, unless memory runs out
 abbrev pub GivesSeen : {A B R : Type 0} → (A → B) → Result A (Rejection R) → Result B R → Type 0

@@ -2,7 +2,7 @@
 
 ghost use Rattle.std.specs.Prelude.{◌≡◌, IfOk, option_map};
 ghost use Rattle.toml.specs.View.{view, items_view};
-ghost use Rattle.registry_wire.specs.Founding.{id_from, slug_from, title_from, span_from, span_after, span_written, all_of_kind};
+ghost use Rattle.registry_wire.specs.Founding.{toml_id, toml_slug, toml_title, toml_span, span_after, span_written, all_of_kind};
 
 use crate::span::span_of;
 use std::alloc::Global;
@@ -21,7 +21,7 @@ pub(crate) trait FromToml: Drop {
 }
 
 impl FromToml for Vid {
-    ghost kind = { id_from };
+    ghost kind = { toml_id };
 
     fn read(_alloc: Global, value: &Value) -> Result<Option<Vid>, NoMemory> {
         match value.as_str() {
@@ -32,7 +32,7 @@ impl FromToml for Vid {
 }
 
 impl FromToml for Slug {
-    ghost kind = { slug_from };
+    ghost kind = { toml_slug };
 
     #[tactic(auto, unfolding(crate::specs::Kinds::slug_of))]
     fn read(alloc: Global, value: &Value) -> Result<Option<Slug>, NoMemory> {
@@ -44,7 +44,7 @@ impl FromToml for Slug {
 }
 
 impl FromToml for Title {
-    ghost kind = { title_from };
+    ghost kind = { toml_title };
 
     #[tactic(auto, unfolding(crate::specs::Kinds::title_of))]
     fn read(alloc: Global, value: &Value) -> Result<Option<Title>, NoMemory> {
@@ -78,7 +78,7 @@ pub(crate) fn span_written(text: &[u8]) -> Option<Span>
 }
 
 impl FromToml for Span {
-    ghost kind = { span_from };
+    ghost kind = { toml_span };
 
     fn read(_alloc: Global, value: &Value) -> Result<Option<Span>, NoMemory> {
         match value.as_str() {

@@ -13,12 +13,12 @@ abbrev pub column_of : List ℕ → Kind → Bool → Column
 column_of name kind required = record { name = name; kind = kind; is_strict = true; not_null = required; default = Null; collation = Binary }
 
 -- INTEGER NOT NULL
-abbrev pub number : List ℕ → Column
-number name = column_of name Integer true
+abbrev pub integer : List ℕ → Column
+integer name = column_of name Integer true
 
 -- INTEGER
-abbrev pub number_or_null : List ℕ → Column
-number_or_null name = column_of name Integer false
+abbrev pub integer_or_null : List ℕ → Column
+integer_or_null name = column_of name Integer false
 
 -- TEXT NOT NULL
 abbrev pub text : List ℕ → Column

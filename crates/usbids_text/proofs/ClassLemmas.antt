@@ -14,7 +14,7 @@ use Rattle.usbids_text.specs.declared.kind.Depth.TheVariants.{Zero, One, Two}
 use Rattle.usbids_text.specs.declared.kind.Kind.TheVariants.{Vendor, Tagged}
 use Rattle.usbids_text.specs.Words.{is_separator, is_tail, is_inner, trimmed, before, word, past_separators, after_word, number_from, code_in, is_four, is_tag, is_code, begins_well, ends_well, is_name}
 use Rattle.usbids_text.specs.Entries.{EntryLine, is_depth, is_line}
-use Rattle.usbids_text.specs.Lines.{short_enough, with_code, below, tagged, top, after_tab, by_tabs, is_comment, class_of}
+use Rattle.usbids_text.specs.Lines.{short_enough, with_code, below, tagged, top, after_tab, by_tabs, is_comment, line_class}
 use Rattle.usbids_text.proofs.EntryLemmas.{both, and_both}
 
 -- bytes without a line feed that end well
@@ -195,8 +195,8 @@ by_tabs_entry (b ∷ bytes) found plain e = elim (cases_Bool (b == 9)) [
   | inr other ↦ top_line_is (b ∷ bytes) found plain (sym (rw other refl) ∙ e)
 ]
 
-pub class_entry : (line : List ℕ) (found : EntryLine) → list_all is_inner line ≡ true → class_of line ≡ Ok (Some found) → is_line found ≡ true
-unfolding class_of
+pub class_entry : (line : List ℕ) (found : EntryLine) → list_all is_inner line ≡ true → line_class line ≡ Ok (Some found) → is_line found ≡ true
+unfolding line_class
 class_entry line found inner e = elim (cases_Bool (nat_lt 65536 (length line))) [
   | inl long ↦ let read : Err LineTooLong ≡ Ok (Some found) = sym (rw long refl) ∙ e in absurd cc
   | inr short ↦ elim (cases_Bool (is_comment (past_separators (trimmed line)))) [

@@ -4,11 +4,11 @@ use Rattle.std.specs.Prelude.{◌==◌, nat_lt, is_some}
 use Rattle.std.proofs.lemmas.Bool.{cases_Bool, le-ltb, lt-ltb, ltb-false, ltb-true}
 use Rattle.usbids_text.specs.declared.line.Why.TheVariants.{LineTooLong}
 use Rattle.std.proofs.lemmas.List.{append-nil}
-use Rattle.usbids_text.specs.Lines.{class_of}
+use Rattle.usbids_text.specs.Lines.{line_class}
 use Rattle.usbids_text.specs.Feeding.{Held, Fed, fed, took, line_done, refused}
 use Rattle.usbids_text.proofs.InnerLemmas.{Pieces}
 use Rattle.usbids_text.specs.Cut.{prefixed, cut}
-use Rattle.usbids_text.specs.Outcome.{done, over, outcome}
+use Rattle.usbids_text.specs.Outcome.{done, over, held_after}
 
 -- none of the bytes is a line feed
 abbrev pub IsPart : List ℕ → Type 0
@@ -37,13 +37,13 @@ unfolding done
 done_fault h [] e = refl
 done_fault h (l ∷ ls) e = rw e (done_fault h ls e)
 
-outcome_fault : (h : Held) (t : List ℕ) → is_some h.fault ≡ true → outcome h t ≡ h
-unfolding outcome
+outcome_fault : (h : Held) (t : List ℕ) → is_some h.fault ≡ true → held_after h t ≡ h
+unfolding held_after
 outcome_fault h t e = rw (done_fault h (cut t).0 e, e) refl
 
 -- a line that is too long is faulty
 pub line_done_long : (h : Held) (l : List ℕ) → 65536 < length l → line_done h l ≡ refused h LineTooLong
-unfolding line_done class_of
+unfolding line_done line_class
 line_done_long h l long = let test : nat_lt 65536 (length l) ≡ true = lt-ltb 65536 (length l) long in rw test refl
 
 long_first : (h : Held) (p : List ℕ) (ls : List (List ℕ)) (rest : List ℕ) → is_some h.fault ≡ false → 65536 < length p → over (done h (prefixed p ls rest).0) (prefixed p ls rest).1 ≡ refused h LineTooLong
@@ -89,8 +89,8 @@ unfolding done
 done_line h l ls e = rw e refl
 
 -- a complete line, and then the rest
-outcome_line : (p : List ℕ) (h : Held) (b : ℕ) (t : List ℕ) → IsPart p → is_some h.fault ≡ false → (b == 10) ≡ true → outcome h (p ++ b ∷ t) ≡ outcome (line_done h p) t
-unfolding outcome
+outcome_line : (p : List ℕ) (h : Held) (b : ℕ) (t : List ℕ) → IsPart p → is_some h.fault ≡ false → (b == 10) ≡ true → held_after h (p ++ b ∷ t) ≡ held_after (line_done h p) t
+unfolding held_after
 outcome_line p h b t part e lf =
     ap (λ (c : Pieces). over (done h c.0) c.1) (cut_line p b t part lf) ∙ ap (λ (k : Held). over k (cut t).1) (done_line h p (cut t).0 e)
 
@@ -99,15 +99,15 @@ over_short h p short =
     let test : nat_lt 65536 (length p) ≡ false = le-ltb 65536 (length p) short in
     elim (cases_Bool (is_some h.fault)) [ inl e ↦ rw e refl | inr e ↦ rw (e, test) refl ]
 
-outcome_long : (p : List ℕ) (h : Held) (t : List ℕ) → IsPart p → is_some h.fault ≡ false → 65536 < length p → outcome h (p ++ t) ≡ refused h LineTooLong
-unfolding outcome
+outcome_long : (p : List ℕ) (h : Held) (t : List ℕ) → IsPart p → is_some h.fault ≡ false → 65536 < length p → held_after h (p ++ t) ≡ refused h LineTooLong
+unfolding held_after
 outcome_long p h t part e long = rw (cut_part p t part) (long_first h p (cut t).0 (cut t).1 e long)
 
-outcome_start : (p : List ℕ) (h : Held) → IsPart p → length p ≤ 65536 → outcome h (p ++ []) ≡ h
-unfolding outcome done
+outcome_start : (p : List ℕ) (h : Held) → IsPart p → length p ≤ 65536 → held_after h (p ++ []) ≡ h
+unfolding held_after done
 outcome_start p h part short = ap (λ (c : Pieces). over (done h c.0) c.1) (cut_open p part) ∙ over_short h p short
 
-pub fed_outcome : (p : List ℕ) (h : Held) (t : List ℕ) → IsPart p → length p ≤ 65536 → (fed (record { pending = p; held = h }) t).held ≡ outcome h (p ++ t)
+pub fed_outcome : (p : List ℕ) (h : Held) (t : List ℕ) → IsPart p → length p ≤ 65536 → (fed (record { pending = p; held = h }) t).held ≡ held_after h (p ++ t)
 unfolding fed
 fed_outcome p h [] part short = sym (outcome_start p h part short)
 fed_outcome p h (b ∷ t) part short =
@@ -116,9 +116,9 @@ fed_outcome p h (b ∷ t) part short =
       | inr e ↦ elim (cases_Bool (b == 10)) [
         | inl lf ↦ ap (λ (x : Fed). (fed x t).held) (took_lf p h b e lf) ∙ (fed_outcome [] (line_done h p) t tt (omega arith) ∙ sym (outcome_line p h b t part e lf))
         | inr other ↦ elim (cases_Bool (nat_lt (length p) 65536)) [
-          | inl room ↦ ap (λ (x : Fed). (fed x t).held) (took_more p h b e other room) ∙ (fed_outcome (p ++ b ∷ []) h t (is_part_push p b part other) (omega (arith, ltb-true (length p) 65536 room, length-append p (b ∷ []))) ∙ ap (outcome h) (append_assoc p (b ∷ []) t))
+          | inl room ↦ ap (λ (x : Fed). (fed x t).held) (took_more p h b e other room) ∙ (fed_outcome (p ++ b ∷ []) h t (is_part_push p b part other) (omega (arith, ltb-true (length p) 65536 room, length-append p (b ∷ []))) ∙ ap (held_after h) (append_assoc p (b ∷ []) t))
           | inr full ↦ ap (λ (x : Fed). (fed x t).held) (took_long p h b e other full) ∙ (fed_fault (record { pending = []; held = refused h LineTooLong }) t refl
-              ∙ (sym (outcome_long (p ++ b ∷ []) h t (is_part_push p b part other) e (omega (arith, ltb-false (length p) 65536 full, length-append p (b ∷ [])))) ∙ ap (outcome h) (append_assoc p (b ∷ []) t)))
+              ∙ (sym (outcome_long (p ++ b ∷ []) h t (is_part_push p b part other) e (omega (arith, ltb-false (length p) 65536 full, length-append p (b ∷ [])))) ∙ ap (held_after h) (append_assoc p (b ∷ []) t)))
         ]
       ]
     ]

@@ -11,7 +11,7 @@ use Rattle.usbids_text.specs.declared.kind.Kind.{Kind}
 use Rattle.usbids_text.specs.declared.kind.Kind.TheVariants.{Vendor, Tagged}
 use Rattle.usbids_text.specs.Entries.{EntryLine, LeafEntry, MidEntry, TopEntry, leaf_line, mid_line, top_line, leaves_lines, mids_lines, tops_lines, preorder, is_vendor, has_room, has_four, is_line, is_sound_top, IsSound}
 use Rattle.usbids_text.specs.Documents.{last, misplaced, fault_at, below_top}
-use Rattle.usbids_text.specs.Opens.{Open, with_mid, whole, put, misplaced_in, with_leaf, open_mid, has_room_in}
+use Rattle.usbids_text.specs.Opens.{Open, with_mid, document_so_far, put, misplaced_in, with_leaf, open_mid, has_room_in}
 use Rattle.usbids_text.proofs.EntryLemmas.{leaves_lines_push, mids_lines_push, tops_lines_push, both, and_both, or_true_is}
 
 -- without an open top there are no closed tops, and without an open mid the open top has no mids
@@ -38,20 +38,20 @@ unfolding last
 last_mid t None e = ap last e
 last_mid t (Some m) e = last_push t.mids m
 
-placed : (entry_line : EntryLine) (tops : List TopEntry) (top : Option TopEntry) (mid : Option MidEntry) → IsOpenAt tops top mid → misplaced_in (record { tops = tops; top = top; mid = mid }) entry_line ≡ misplaced (whole (record { tops = tops; top = top; mid = mid })) entry_line
+placed : (entry_line : EntryLine) (tops : List TopEntry) (top : Option TopEntry) (mid : Option MidEntry) → IsOpenAt tops top mid → misplaced_in (record { tops = tops; top = top; mid = mid }) entry_line ≡ misplaced (document_so_far (record { tops = tops; top = top; mid = mid })) entry_line
 unfolding misplaced misplaced_in
 placed entry_line tops None mid e = rw (e, last_nil {A = TopEntry}) refl
 placed entry_line tops (Some t) None e = rw last_push (rw (last_mid t None e) refl)
 placed entry_line tops (Some t) (Some m) e = rw last_push (rw (last_mid t (Some m) tt) refl)
 
-pub misplaced_same : (o : Open) (entry_line : EntryLine) → IsOpen o → misplaced_in o entry_line ≡ misplaced (whole o) entry_line
+pub misplaced_same : (o : Open) (entry_line : EntryLine) → IsOpen o → misplaced_in o entry_line ≡ misplaced (document_so_far o) entry_line
 misplaced_same o entry_line e = placed entry_line o.tops o.top o.mid e
 
 -- the effect of an entry that is put in its place
 pub record Puts (o : Open) (entry_line : EntryLine) : Type 0 where
   pub opens : IsOpen (put o entry_line)
-  pub entry_lines : tops_lines (whole (put o entry_line)) ≡ tops_lines (whole o) ++ entry_line ∷ []
-  pub fours : list_all is_sound_top (whole o) ≡ true → list_all is_sound_top (whole (put o entry_line)) ≡ true
+  pub entry_lines : tops_lines (document_so_far (put o entry_line)) ≡ tops_lines (document_so_far o) ++ entry_line ∷ []
+  pub fours : list_all is_sound_top (document_so_far o) ≡ true → list_all is_sound_top (document_so_far (put o entry_line)) ≡ true
 
 abbrev entry_at : ℕ → ℕ → List ℕ → Kind → EntryLine
 entry_at code digits name kind = record { depth = Zero kind; code = code; digits = digits; name = name }
@@ -63,8 +63,8 @@ puts_top : (o : Open) (code digits : ℕ) (name : List ℕ) (kind : Kind) → Pu
 unfolding put mids_lines
 puts_top o code digits name kind = record {
   opens = refl;
-  entry_lines = tops_lines_push (whole o) (record { kind = kind; code = code; digits = digits; name = name; mids = [] });
-  fours = λ s. sound_push (whole o) (record { kind = kind; code = code; digits = digits; name = name; mids = [] }) s (or_true_is (not (is_vendor kind)));
+  entry_lines = tops_lines_push (document_so_far o) (record { kind = kind; code = code; digits = digits; name = name; mids = [] });
+  fours = λ s. sound_push (document_so_far o) (record { kind = kind; code = code; digits = digits; name = name; mids = [] }) s (or_true_is (not (is_vendor kind)));
 }
 
 lines_mid : (tops : List TopEntry) (t : TopEntry) (m : MidEntry) → tops_lines (tops ++ with_mid t (Some m) ∷ []) ≡ tops_lines (tops ++ t ∷ []) ++ mid_line m ∷ leaves_lines m.leaves
@@ -141,12 +141,12 @@ puts_at Two code digits name tops (Some t) (Some m) e = record {
 pub puts : (o : Open) (entry_line : EntryLine) → misplaced_in o entry_line ≡ None → Puts o entry_line
 puts o entry_line e = puts_at entry_line.depth entry_line.code entry_line.digits entry_line.name o.tops o.top o.mid e
 
-pub puts_sound : (o : Open) (entry_line : EntryLine) → misplaced_in o entry_line ≡ None → is_line entry_line ≡ true → IsSound (whole o) → IsSound (whole (put o entry_line))
+pub puts_sound : (o : Open) (entry_line : EntryLine) → misplaced_in o entry_line ≡ None → is_line entry_line ≡ true → IsSound (document_so_far o) → IsSound (document_so_far (put o entry_line))
 puts_sound o entry_line place fine s =
     let p = puts o entry_line place in
     record {
       fours = p.fours s.fours;
-      each = ap (list_all is_line) p.entry_lines ∙ (list_all-append is_line (preorder (whole o)) (entry_line ∷ []) ∙ and_both (list_all is_line (preorder (whole o))) (is_line entry_line && true) s.each (and_both (is_line entry_line) true fine refl));
+      each = ap (list_all is_line) p.entry_lines ∙ (list_all-append is_line (preorder (document_so_far o)) (entry_line ∷ []) ∙ and_both (list_all is_line (preorder (document_so_far o))) (is_line entry_line && true) s.each (and_both (is_line entry_line) true fine refl));
     }
 
 room_kind : (kind : Kind) (digits : ℕ) → (is_vendor kind && not (digits == 4)) ≡ false → has_room kind digits ≡ true

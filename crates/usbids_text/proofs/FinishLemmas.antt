@@ -8,7 +8,7 @@ use Rattle.usbids_text.specs.declared.fault.ReadFault.{ReadFault}
 use Rattle.usbids_text.specs.declared.fault.ReadFault.TheVariants.{Line, NoMemory}
 use Rattle.usbids_text.specs.Documents.{AreLinesOf, FaultAt}
 use Rattle.usbids_text.specs.Entries.{TopEntry}
-use Rattle.usbids_text.specs.Opens.{Open, none_open, whole}
+use Rattle.usbids_text.specs.Opens.{Open, none_open, document_so_far}
 use Rattle.usbids_text.specs.Building.{open_of}
 use Rattle.usbids_text.specs.Readers.{WasFed, reader_state}
 use Rattle.usbids_text.specs.Held.{held_of}
@@ -19,7 +19,7 @@ use Rattle.usbids_text.proofs.FeedLemmas.{fed_append}
 use Rattle.usbids_text.proofs.PieceLemmas.{fed_faulty}
 use Rattle.usbids_text.specs.Cut.{cut, lines, with_rest}
 use Rattle.usbids_text.specs.Feeding.{Held, Fed, fed, line_done, refused, start, step, finished, with_last}
-use Rattle.usbids_text.specs.Outcome.{done, over, outcome}
+use Rattle.usbids_text.specs.Outcome.{done, over, held_after}
 use Rattle.usbids_text.specs.Reading.{ReadsAs}
 use Rattle.usbids_text.proofs.CutLemmas.{IsPart, is_part_push, cut_open, cut_line, fed_fault, fed_outcome, took_lf, took_more, took_long, line_done_long}
 use Rattle.usbids_text.proofs.RunLemmas.{Good, Bad, verdict_of}
@@ -81,7 +81,7 @@ done_rest h ls [] = refl
 done_rest h ls (b ∷ t) = done_push h ls (b ∷ t)
 
 finished_lines : (t : List ℕ) → finished (fed start t) ≡ done start.held (lines t)
-unfolding finished lines outcome
+unfolding finished lines held_after
 finished_lines t =
     let h : Held = done start.held (cut t).0 in
     let rest : List ℕ = (cut t).1 in
@@ -96,7 +96,7 @@ finished_lines t =
 pub ended_at : (t : List ℕ) (h : Held) → h ≡ finished (fed start t) → Good h (lines t) ⊎ Bad h (lines t)
 ended_at t h e = subst (λ (k : Held). Good k (lines t) ⊎ Bad k (lines t)) (sym (e ∙ finished_lines t)) (verdict_of (lines t) (lines_inner t))
 
-pub answers_ok : (t : List ℕ) (h : Held) (doc : List TopEntry) → h ≡ finished (fed start t) → h.fault ≡ None → doc ≡ whole h.built → ReadsAs t (Ok doc)
+pub answers_ok : (t : List ℕ) (h : Held) (doc : List TopEntry) → h ≡ finished (fed start t) → h.fault ≡ None → doc ≡ document_so_far h.built → ReadsAs t (Ok doc)
 answers_ok t h doc e clear is = elim (ended_at t h e) [
   | inl g ↦ subst (λ (d : List TopEntry). AreLinesOf (lines t) d) (sym is) g.lines_of
   | inr b ↦ absurd (let w = b.is in cc)
@@ -133,7 +133,7 @@ finish_stuck r t f (inl m) e = memory f t (cc)
 finish_stuck r t f (inr s) e = answers_err t (held_of r.taken) f (sym (finished_faulty r (ap is_some e)) ∙ ap finished s) e
 
 abbrev pub Ended : Taken → Result (List TopEntry) ReadFault → Type 0
-Ended taken result = IfOk result (λ doc. (taken.fault ≡ None) × (doc ≡ whole (open_of taken.builder))) × IfErr result (λ e. (e ≡ NoMemory) ⊎ (taken.fault ≡ Some e))
+Ended taken result = IfOk result (λ doc. (taken.fault ≡ None) × (doc ≡ document_so_far (open_of taken.builder))) × IfErr result (λ e. (e ≡ NoMemory) ⊎ (taken.fault ≡ Some e))
 
 finish_err : (r : Reader) (t : List ℕ) (taken : Taken) (f : ReadFault) → WasFed r t → held_of taken ≡ finished (reader_state r) → taken.fault ≡ Some f → ReadsAs t (Err f)
 finish_err r t taken f (inl m) e is =

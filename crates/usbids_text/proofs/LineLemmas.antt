@@ -12,7 +12,7 @@ use Rattle.usbids_text.specs.declared.kind.Depth.TheVariants.{Zero, One, Two}
 use Rattle.usbids_text.specs.declared.kind.Kind.TheVariants.{Vendor, Tagged}
 use Rattle.usbids_text.specs.Words.{is_separator, is_tail, is_inner, is_upper, trimmed, word, past_separators, after_word, code_in, is_four, is_tag, is_code, begins_well, ends_well, is_name}
 use Rattle.usbids_text.specs.Entries.{EntryLine, is_depth, is_line}
-use Rattle.usbids_text.specs.Lines.{short_enough, with_code, below, tagged, top, after_tab, by_tabs, is_comment, class_of}
+use Rattle.usbids_text.specs.Lines.{short_enough, with_code, below, tagged, top, after_tab, by_tabs, is_comment, line_class}
 use Rattle.usbids_text.specs.Writing.{front, code_text, gap, line_text}
 use Rattle.usbids_text.proofs.EntryLemmas.{both, and_both, entry_code, entry_name, entry_depth}
 use Rattle.usbids_text.proofs.WordLemmas.{trimmed_done, ends_well_last}
@@ -95,13 +95,13 @@ body_ends digits code [] s h = ap ends_well (append-nil (code_text digits code) 
 body_ends digits code (b ∷ bytes) s h = ap ends_well (sym (append_assoc (code_text digits code) (32 ∷ 32 ∷ []) (b ∷ bytes))) ∙ (ends_append (code_text digits code ++ 32 ∷ 32 ∷ []) bytes b ∙ h)
 
 -- a line that ends well and is not a comment
-class_plain : (line : List ℕ) (b : ℕ) (rest : List ℕ) → length line ≤ 65536 → 0 < length line → ends_well line ≡ true → past_separators line ≡ b ∷ rest → (b == 35) ≡ false → class_of line ≡ by_tabs line
-unfolding class_of
+class_plain : (line : List ℕ) (b : ℕ) (rest : List ℕ) → length line ≤ 65536 → 0 < length line → ends_well line ≡ true → past_separators line ≡ b ∷ rest → (b == 35) ≡ false → line_class line ≡ by_tabs line
+unfolding line_class
 class_plain line b rest short some ends past plain =
     let test : nat_lt 65536 (length line) ≡ false = le-ltb 65536 (length line) short in
     let kept : is_tail (get_or line (length line - 1) 0) ≡ false = not-true (is_tail (get_or line (length line - 1) 0)) (sym (ends_well_last line some) ∙ ends) in
     let same : trimmed line ≡ line = sym (trimmed_done line some kept) in
-    let open_line : class_of line ≡ (if is_comment (past_separators (trimmed line)) then Ok None else by_tabs (trimmed line)) = rw test refl in
+    let open_line : line_class line ≡ (if is_comment (past_separators (trimmed line)) then Ok None else by_tabs (trimmed line)) = rw test refl in
     let seen : is_comment (past_separators line) ≡ false = ap is_comment past ∙ plain in
     open_line ∙ (ap (λ (l : List ℕ). if is_comment (past_separators l) then Ok None else by_tabs l) same ∙ rw seen refl)
 
@@ -135,18 +135,18 @@ past_begin bytes b = ap (λ (l : List ℕ). past_separators l) b.is ∙ past_sol
 ends_tab : (bytes : List ℕ) → Begins bytes → ends_well bytes ≡ true → ends_well (9 ∷ bytes) ≡ true
 ends_tab bytes b h = ap (λ (l : List ℕ). ends_well (9 ∷ l)) b.is ∙ (ends_append (9 ∷ []) b.rest b.first ∙ (ap ends_well (sym b.is) ∙ h))
 
-class_mid : (bytes : List ℕ) (b : Begins bytes) → length bytes ≤ 65500 → ends_well bytes ≡ true → class_of (9 ∷ bytes) ≡ below One bytes
+class_mid : (bytes : List ℕ) (b : Begins bytes) → length bytes ≤ 65500 → ends_well bytes ≡ true → line_class (9 ∷ bytes) ≡ below One bytes
 class_mid bytes b short ends =
     class_plain (9 ∷ bytes) b.first b.rest (omega arith) (omega arith) (ends_tab bytes b ends) (past_one 9 bytes refl ∙ past_begin bytes b) b.plain ∙ tab_body bytes b
 
 ends_two : (bytes : List ℕ) → Begins bytes → ends_well bytes ≡ true → ends_well (9 ∷ (9 ∷ bytes)) ≡ true
 ends_two bytes b h = ap (λ (l : List ℕ). ends_well (9 ∷ (9 ∷ l))) b.is ∙ (ends_append (9 ∷ (9 ∷ [])) b.rest b.first ∙ (ap ends_well (sym b.is) ∙ h))
 
-class_leaf : (bytes : List ℕ) (b : Begins bytes) → length bytes ≤ 65500 → ends_well bytes ≡ true → class_of (9 ∷ (9 ∷ bytes)) ≡ below Two bytes
+class_leaf : (bytes : List ℕ) (b : Begins bytes) → length bytes ≤ 65500 → ends_well bytes ≡ true → line_class (9 ∷ (9 ∷ bytes)) ≡ below Two bytes
 class_leaf bytes b short ends =
     class_plain (9 ∷ (9 ∷ bytes)) b.first b.rest (omega arith) (omega arith) (ends_two bytes b ends) (past_one 9 (9 ∷ bytes) refl ∙ (past_one 9 bytes refl ∙ past_begin bytes b)) b.plain
 
-class_top : (bytes : List ℕ) (b : Begins bytes) → length bytes ≤ 65536 → ends_well bytes ≡ true → class_of bytes ≡ top bytes
+class_top : (bytes : List ℕ) (b : Begins bytes) → length bytes ≤ 65536 → ends_well bytes ≡ true → line_class bytes ≡ top bytes
 class_top bytes b short ends =
     let e = ap length b.is in
     class_plain bytes b.first b.rest short (omega arith) ends (past_begin bytes b) b.plain ∙ begin_top bytes b
@@ -232,7 +232,7 @@ line_tag : (tag : List ℕ) (digits code : ℕ) (name : List ℕ) → line_text 
 unfolding line_text
 line_tag tag digits code name = append_assoc tag (32 ∷ []) (body digits code name)
 
-line_read : (depth : Depth) (digits code : ℕ) (name : List ℕ) → is_code code digits ≡ true → is_name name ≡ true → is_depth depth digits ≡ true → class_of (line_text (front depth) digits code name) ≡ Ok (Some (mk depth code digits name))
+line_read : (depth : Depth) (digits code : ℕ) (name : List ℕ) → is_code code digits ≡ true → is_name name ≡ true → is_depth depth digits ≡ true → line_class (line_text (front depth) digits code name) ≡ Ok (Some (mk depth code digits name))
 unfolding line_text
 line_read One digits code name e n d =
     let s = spelt digits code e in
@@ -257,11 +257,11 @@ line_read (Zero (Tagged tag)) digits code name e n d =
     let b = body_begins digits code name s in
     let short = body_is_short digits code name (digits_few digits code e) s w.short in
     let brief = t.short in
-    ap class_of (line_tag tag digits code name)
+    ap line_class (line_tag tag digits code name)
     ∙ (class_top (tag_line tag (body digits code name)) (tag_begins tag (body digits code name) t) (omega (arith, length-append tag (32 ∷ body digits code name))) (ends_tag tag (body digits code name) b (body_ends digits code name s w.ends))
     ∙ (top_tagged tag (body digits code name) d t b ∙ below_body (Zero (Tagged tag)) digits code name e s w.begins w.short))
 
-pub entry_read : (entry_line : EntryLine) → is_line entry_line ≡ true → class_of (line_text (front entry_line.depth) entry_line.digits entry_line.code entry_line.name) ≡ Ok (Some entry_line)
+pub entry_read : (entry_line : EntryLine) → is_line entry_line ≡ true → line_class (line_text (front entry_line.depth) entry_line.digits entry_line.code entry_line.name) ≡ Ok (Some entry_line)
 entry_read entry_line e = line_read entry_line.depth entry_line.digits entry_line.code entry_line.name (entry_code entry_line e) (entry_name entry_line e) (entry_depth entry_line e)
 
 inner_body : (digits code : ℕ) (name : List ℕ) → IsSpelt digits code → list_all is_inner name ≡ true → list_all is_inner (body digits code name) ≡ true

@@ -8,9 +8,9 @@ use Rattle.usbids_text.specs.declared.fault.ReadFault.TheVariants.{Line}
 use Rattle.std.specs.List.{list_all}
 use Rattle.usbids_text.specs.Words.{is_inner}
 use Rattle.usbids_text.specs.Entries.{EntryLine, preorder, tops_lines}
-use Rattle.usbids_text.specs.Lines.{class_of}
-use Rattle.usbids_text.specs.Documents.{entries, with_line, AreLinesOf, FaultIn, fault_of, next}
-use Rattle.usbids_text.specs.Opens.{whole, misplaced_in}
+use Rattle.usbids_text.specs.Lines.{line_class}
+use Rattle.usbids_text.specs.Documents.{entries, with_line, AreLinesOf, FaultIn, line_fault, next}
+use Rattle.usbids_text.specs.Opens.{document_so_far, misplaced_in}
 use Rattle.usbids_text.specs.Feeding.{Held, line_done, with_class, with_fault, refused, start}
 use Rattle.usbids_text.specs.Outcome.{done}
 use Rattle.usbids_text.proofs.CutLemmas.{done_fault}
@@ -37,16 +37,16 @@ joined_nil (Some y) = refl
 pub entries_append : (a b : List (List ℕ)) → entries (a ++ b) ≡ joined (entries a) (entries b)
 unfolding entries
 entries_append [] b = joined_nil (entries b)
-entries_append (l ∷ a) b = ap (with_line (class_of l)) (entries_append a b) ∙ with_line_joined (class_of l) (entries a) (entries b)
+entries_append (l ∷ a) b = ap (with_line (line_class l)) (entries_append a b) ∙ with_line_joined (line_class l) (entries a) (entries b)
 
-entries_push : (ls : List (List ℕ)) (l : List ℕ) (entry_lines : List EntryLine) → entries ls ≡ Some entry_lines → entries (ls ++ l ∷ []) ≡ joined (Some entry_lines) (with_line (class_of l) (Some []))
+entries_push : (ls : List (List ℕ)) (l : List ℕ) (entry_lines : List EntryLine) → entries ls ≡ Some entry_lines → entries (ls ++ l ∷ []) ≡ joined (Some entry_lines) (with_line (line_class l) (Some []))
 unfolding entries
-entries_push ls l entry_lines e = entries_append ls (l ∷ []) ∙ ap (λ (r : Option (List EntryLine)). joined r (with_line (class_of l) (Some []))) e
+entries_push ls l entry_lines e = entries_append ls (l ∷ []) ∙ ap (λ (r : Option (List EntryLine)). joined r (with_line (line_class l) (Some []))) e
 
 -- no line was faulty
 pub record Good (h : Held) (ls : List (List ℕ)) : Type 0 where
   pub opens : IsOpen h.built
-  pub lines_of : AreLinesOf ls (whole h.built)
+  pub lines_of : AreLinesOf ls (document_so_far h.built)
   pub number : h.line ≡ next (length ls)
   pub clear : h.fault ≡ None
 
@@ -58,35 +58,35 @@ pub record Bad (h : Held) (ls : List (List ℕ)) : Type 0 where
 number_push : (n : ℕ) (ls : List (List ℕ)) (l : List ℕ) → n ≡ next (length ls) → next n ≡ next (length (ls ++ l ∷ []))
 number_push n ls l e = omega (arith, length-append ls (l ∷ []))
 
-step_faulty : (h : Held) (ls : List (List ℕ)) (l : List ℕ) (why : Why) → Good h ls → fault_of (whole h.built) (class_of l) ≡ Some why → Bad (refused h why) (ls ++ l ∷ [])
+step_faulty : (h : Held) (ls : List (List ℕ)) (l : List ℕ) (why : Why) → Good h ls → line_fault (document_so_far h.built) (line_class l) ≡ Some why → Bad (refused h why) (ls ++ l ∷ [])
 step_faulty h ls l why good e = record {
   fault = record { line = h.line; why = why };
   is = refl;
-  faulty = record { before = ls; line = l; after = []; doc = whole h.built; cut = refl; number = good.number; lines_of = good.lines_of; faulty = e };
+  faulty = record { before = ls; line = l; after = []; doc = document_so_far h.built; cut = refl; number = good.number; lines_of = good.lines_of; faulty = e };
 }
 
-step_entry : (h : Held) (ls : List (List ℕ)) (l : List ℕ) (entry_line : EntryLine) (o : Option Why) → Good h ls → list_all is_inner l ≡ true → class_of l ≡ Ok (Some entry_line) → misplaced_in h.built entry_line ≡ o → Good (with_fault h entry_line o) (ls ++ l ∷ []) ⊎ Bad (with_fault h entry_line o) (ls ++ l ∷ [])
+step_entry : (h : Held) (ls : List (List ℕ)) (l : List ℕ) (entry_line : EntryLine) (o : Option Why) → Good h ls → list_all is_inner l ≡ true → line_class l ≡ Ok (Some entry_line) → misplaced_in h.built entry_line ≡ o → Good (with_fault h entry_line o) (ls ++ l ∷ []) ⊎ Bad (with_fault h entry_line o) (ls ++ l ∷ [])
 step_entry h ls l entry_line None good inner is place =
     let p = puts h.built entry_line place in
     inl (record {
       opens = p.opens;
       lines_of = record {
         sound = puts_sound h.built entry_line place (class_entry l entry_line inner is) good.lines_of.sound;
-        entry_lines = entries_push ls l (preorder (whole h.built)) good.lines_of.entry_lines ∙ (ap (λ (c : Result (Option EntryLine) Why). joined (Some (preorder (whole h.built))) (with_line c (Some []))) is ∙ ap (λ (r : List EntryLine). Some r) (sym p.entry_lines));
+        entry_lines = entries_push ls l (preorder (document_so_far h.built)) good.lines_of.entry_lines ∙ (ap (λ (c : Result (Option EntryLine) Why). joined (Some (preorder (document_so_far h.built))) (with_line c (Some []))) is ∙ ap (λ (r : List EntryLine). Some r) (sym p.entry_lines));
       };
       number = number_push h.line ls l good.number;
       clear = good.clear;
     })
 step_entry h ls l entry_line (Some why) good inner is place =
-    inr (step_faulty h ls l why good (ap (fault_of (whole h.built)) is ∙ (sym (misplaced_same h.built entry_line good.opens) ∙ place)))
+    inr (step_faulty h ls l why good (ap (line_fault (document_so_far h.built)) is ∙ (sym (misplaced_same h.built entry_line good.opens) ∙ place)))
 
-step_class : (h : Held) (ls : List (List ℕ)) (l : List ℕ) (c : Result (Option EntryLine) Why) → Good h ls → list_all is_inner l ≡ true → class_of l ≡ c → Good (with_class h c) (ls ++ l ∷ []) ⊎ Bad (with_class h c) (ls ++ l ∷ [])
-step_class h ls l (Err why) good inner is = inr (step_faulty h ls l why good (ap (fault_of (whole h.built)) is))
+step_class : (h : Held) (ls : List (List ℕ)) (l : List ℕ) (c : Result (Option EntryLine) Why) → Good h ls → list_all is_inner l ≡ true → line_class l ≡ c → Good (with_class h c) (ls ++ l ∷ []) ⊎ Bad (with_class h c) (ls ++ l ∷ [])
+step_class h ls l (Err why) good inner is = inr (step_faulty h ls l why good (ap (line_fault (document_so_far h.built)) is))
 step_class h ls l (Ok None) good inner is = inl (record {
   opens = good.opens;
   lines_of = record {
     sound = good.lines_of.sound;
-    entry_lines = entries_push ls l (preorder (whole h.built)) good.lines_of.entry_lines ∙ (ap (λ (c : Result (Option EntryLine) Why). joined (Some (preorder (whole h.built))) (with_line c (Some []))) is ∙ ap (λ (r : List EntryLine). Some r) (append-nil (preorder (whole h.built))));
+    entry_lines = entries_push ls l (preorder (document_so_far h.built)) good.lines_of.entry_lines ∙ (ap (λ (c : Result (Option EntryLine) Why). joined (Some (preorder (document_so_far h.built))) (with_line c (Some []))) is ∙ ap (λ (r : List EntryLine). Some r) (append-nil (preorder (document_so_far h.built))));
   };
   number = number_push h.line ls l good.number;
   clear = good.clear;
@@ -95,7 +95,7 @@ step_class h ls l (Ok (Some entry_line)) good inner is = step_entry h ls l entry
 
 pub step_line : (h : Held) (ls : List (List ℕ)) (l : List ℕ) → Good h ls → list_all is_inner l ≡ true → Good (line_done h l) (ls ++ l ∷ []) ⊎ Bad (line_done h l) (ls ++ l ∷ [])
 unfolding line_done
-step_line h ls l good inner = step_class h ls l (class_of l) good inner refl
+step_line h ls l good inner = step_class h ls l (line_class l) good inner refl
 
 unfoldable pub more-lines : (ls more : List (List ℕ)) (n : ℕ) (why : Why) → FaultIn ls n why → FaultIn (ls ++ more) n why
 more-lines ls more n why f = record {

@@ -16,8 +16,8 @@ use Rattle.usbids_text.specs.declared.seen.Wanted.{Wanted}
 use Rattle.usbids_text.specs.Entries.{EntryLine, LeafEntry, MidEntry, TopEntry}
 use Rattle.usbids_text.specs.Documents.{below_mid, below_top}
 use Rattle.usbids_text.specs.Finding.{first_mid, find_in, find_mid, vendor_has}
-use Rattle.usbids_text.specs.Lines.{class_of}
-use Rattle.usbids_text.specs.Opens.{Open, whole, open_mid, put, misplaced_in, with_mid, with_leaf, more_leaf}
+use Rattle.usbids_text.specs.Lines.{line_class}
+use Rattle.usbids_text.specs.Opens.{Open, document_so_far, open_mid, put, misplaced_in, with_mid, with_leaf, more_leaf}
 use Rattle.usbids_text.specs.Feeding.{Held, Fed, line_done, with_class, with_fault, ended, kept, finished, with_last, fed, start}
 use Rattle.usbids_text.specs.Scanning.{Scanned, scanned_of, seen_of, over_kind, over_of, is_match, seen_below, seen_misplaced, seen_put, seen_class, seen_fault, seen_line, scan_ended, scan_kept, scan_finished, seen_last, seen_next, seen_answer}
 use Rattle.usbids_text.specs.declared.scan.Scan.{Scan}
@@ -94,11 +94,11 @@ misplaced_seen w h entry_line = misplaced_depth w h entry_line.depth entry_line.
 
 -- what the search has found in a document under construction
 abbrev found : Wanted → List TopEntry → Option TopEntry → Option MidEntry → Option (List ℕ)
-found w tops top mid = find_mid w.vendor w.code (whole (opened tops top mid))
+found w tops top mid = find_mid w.vendor w.code (document_so_far (opened tops top mid))
 
-found_top : (w : Wanted) (tops : List TopEntry) (top : Option TopEntry) (mid : Option MidEntry) (t : TopEntry) → t.mids ≡ [] → found w (whole (opened tops top mid)) (Some t) None ≡ found w tops top mid
+found_top : (w : Wanted) (tops : List TopEntry) (top : Option TopEntry) (mid : Option MidEntry) (t : TopEntry) → t.mids ≡ [] → found w (document_so_far (opened tops top mid)) (Some t) None ≡ found w tops top mid
 found_top w tops top mid t e =
-    find_push w.vendor w.code (whole (opened tops top mid)) t ∙ (ap (option_or (found w tops top mid)) (in_none w.vendor w.code t e) ∙ or_none_is (found w tops top mid))
+    find_push w.vendor w.code (document_so_far (opened tops top mid)) t ∙ (ap (option_or (found w tops top mid)) (in_none w.vendor w.code t e) ∙ or_none_is (found w tops top mid))
 
 found_mid : (w : Wanted) (tops : List TopEntry) (t : TopEntry) (mid : Option MidEntry) (m : MidEntry) → found w tops (Some (with_mid t mid)) (Some m) ≡ option_or (found w tops (Some t) mid) (gain w t.kind t.code m.code m.name)
 found_mid w tops t None m = find_mid_push w tops t m
@@ -149,7 +149,7 @@ class_seen w h (Ok (Some entry_line)) = ap (seen_fault w (seen_of w h) entry_lin
 
 pub line_seen : (w : Wanted) (h : Held) (line : List ℕ) → seen_line w (seen_of w h) line ≡ seen_of w (line_done h line)
 unfolding seen_line line_done
-line_seen w h line = class_seen w h (class_of line)
+line_seen w h line = class_seen w h (line_class line)
 
 -- ---- bytes that come in pieces
 
@@ -188,7 +188,7 @@ scan_rest w s state new rest none is step = step ∙ (ap (λ (x : Scanned). scan
 
 pub found_ok : (w : Wanted) (t : List ℕ) (q : Seen) (h : Held) → h ≡ finished (fed start t) → q ≡ seen_of w h → q.fault ≡ None → LooksUpAs w t (Ok q.found)
 found_ok w t q h e is clear = elim (ended_at t h e) [
-  | inl g ↦ (whole h.built, g.lines_of, ap (λ (x : Seen). x.found) is)
+  | inl g ↦ (document_so_far h.built, g.lines_of, ap (λ (x : Seen). x.found) is)
   | inr b ↦ absurd (let none : h.fault ≡ None = sym (ap (λ (x : Seen). x.fault) is) ∙ clear in let w = b.is in cc)
 ]
 

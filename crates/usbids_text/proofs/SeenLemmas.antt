@@ -8,14 +8,14 @@ use Rattle.usbids_text.specs.declared.fault.LineFault.{LineFault}
 use Rattle.usbids_text.specs.declared.fault.ReadFault.{ReadFault}
 use Rattle.usbids_text.specs.declared.fault.ReadFault.TheVariants.{Line, NoMemory}
 use Rattle.usbids_text.specs.declared.reader.Reader.{Reader}
-use Rattle.usbids_text.specs.Lines.{class_of}
-use Rattle.usbids_text.specs.Documents.{FaultIn, fault_of}
-use Rattle.usbids_text.specs.Opens.{whole}
+use Rattle.usbids_text.specs.Lines.{line_class}
+use Rattle.usbids_text.specs.Documents.{FaultIn, line_fault}
+use Rattle.usbids_text.specs.Opens.{document_so_far}
 use Rattle.usbids_text.specs.Readers.{WasFed, reader_state}
 use Rattle.usbids_text.proofs.InnerLemmas.{AreInner, cut_inner, with_rest_inner}
 use Rattle.usbids_text.specs.Cut.{cut, lines, with_rest}
 use Rattle.usbids_text.specs.Feeding.{Held, Fed, refused, start, with_last}
-use Rattle.usbids_text.specs.Outcome.{done, over, outcome}
+use Rattle.usbids_text.specs.Outcome.{done, over, held_after}
 use Rattle.usbids_text.specs.Reading.{AnswersSoFar, SeenFault}
 use Rattle.usbids_text.proofs.CutLemmas.{fed_outcome}
 use Rattle.usbids_text.proofs.FinishLemmas.{done_rest, over_open, with_last_faulty}
@@ -35,13 +35,13 @@ unfolding more-lines
 seen_whole ls [] n why f = (f, inl (before_shorter ls n why f))
 seen_whole ls (b ∷ t) n why f = (more-lines ls ((b ∷ t) ∷ []) n why f, inl (before_shorter ls n why f))
 
-class_long : (l : List ℕ) → nat_lt 65536 (length l) ≡ true → class_of l ≡ Err LineTooLong
-unfolding class_of
+class_long : (l : List ℕ) → nat_lt 65536 (length l) ≡ true → line_class l ≡ Err LineTooLong
+unfolding line_class
 class_long l long = rw long refl
 
 seen_rest : (h : Held) (ls : List (List ℕ)) (rest : List ℕ) → Good h ls → nat_lt 65536 (length rest) ≡ true → Seen ls rest h.line LineTooLong
 seen_rest h ls [] g long = absurd (let f = ltb-true 65536 0 long in omega arith)
-seen_rest h ls (b ∷ t) g long = (record { before = ls; line = b ∷ t; after = []; doc = whole h.built; cut = refl; number = g.number; lines_of = g.lines_of; faulty = ap (fault_of (whole h.built)) (class_long (b ∷ t) long) }, inr (ltb-true 65536 (length (b ∷ t)) long))
+seen_rest h ls (b ∷ t) g long = (record { before = ls; line = b ∷ t; after = []; doc = document_so_far h.built; cut = refl; number = g.number; lines_of = g.lines_of; faulty = ap (line_fault (document_so_far h.built)) (class_long (b ∷ t) long) }, inr (ltb-true 65536 (length (b ∷ t)) long))
 
 abbrev at_line : ℕ → Why → LineFault
 at_line n why = record { line = n; why = why }
@@ -64,7 +64,7 @@ seen_over h ls rest f (inl g) e = elim (cases_Bool (nat_lt 65536 (length rest)))
 ]
 
 so_far_is : (r : Reader) (t : List ℕ) (o : Option ReadFault) → WasFed r t → r.taken.fault ≡ o → AnswersSoFar t o
-unfolding outcome lines
+unfolding held_after lines
 so_far_is r t None s e = tt
 so_far_is r t (Some NoMemory) s e = tt
 so_far_is r t (Some (Line f)) (inl m) e = absurd cc
@@ -129,7 +129,7 @@ seen_found ls rest n why whole_inner inner s = elim (cases_lt (length s.0.before
 
 -- the reader has a fault that is seen
 pub seen_is : (r : Reader) (t : List ℕ) (n : ℕ) (why : Why) → WasFed r t → SeenFault t n why → (r.taken.fault ≡ Some NoMemory) ⊎ (r.taken.fault ≡ Some (Line (record { line = n; why = why })))
-unfolding outcome lines
+unfolding held_after lines
 seen_is r t n why (inl m) seen = inl m
 seen_is r t n why (inr s) seen =
     let held : over (done start.held (cut t).0) (cut t).1 ≡ (reader_state r).held = sym (fed_outcome [] start.held t tt (omega arith)) ∙ ap (λ (x : Fed). x.held) (sym s) in

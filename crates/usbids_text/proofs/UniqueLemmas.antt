@@ -7,8 +7,8 @@ use Rattle.usbids_text.specs.declared.line.Why.{Why}
 use Rattle.usbids_text.specs.declared.kind.Kind.{Kind}
 use Rattle.usbids_text.specs.declared.kind.Kind.TheVariants.{Vendor, Tagged}
 use Rattle.usbids_text.specs.Entries.{EntryLine, LeafEntry, MidEntry, TopEntry, leaf_line, mid_line, top_line, leaves_lines, mids_lines, tops_lines, preorder, is_vendor, has_four, is_sound_top, IsSound}
-use Rattle.usbids_text.specs.Lines.{class_of}
-use Rattle.usbids_text.specs.Documents.{misplaced, AreLinesOf, FaultIn, fault_of, entries, with_line}
+use Rattle.usbids_text.specs.Lines.{line_class}
+use Rattle.usbids_text.specs.Documents.{misplaced, AreLinesOf, FaultIn, line_fault, entries, with_line}
 use Rattle.usbids_text.specs.declared.fault.LineFault.{LineFault}
 use Rattle.usbids_text.specs.declared.fault.ReadFault.TheVariants.{Line}
 use Rattle.usbids_text.specs.Feeding.{Held, line_done, with_class, with_fault, refused, start}
@@ -16,7 +16,7 @@ use Rattle.usbids_text.specs.Outcome.{done}
 use Rattle.usbids_text.proofs.CutLemmas.{done_fault}
 use Rattle.usbids_text.proofs.DocumentLemmas.{IsOpen, IsOpenAt, misplaced_same}
 use Rattle.usbids_text.proofs.RunLemmas.{joined, entries_append, verdict_of, done_good}
-use Rattle.usbids_text.specs.Opens.{Open, with_mid, whole, put, misplaced_in, with_leaf, none_open}
+use Rattle.usbids_text.specs.Opens.{Open, with_mid, document_so_far, put, misplaced_in, with_leaf, none_open}
 use Rattle.usbids_text.proofs.EntryLemmas.{both}
 use Rattle.usbids_text.proofs.InnerLemmas.{AreInner, are_inner_before}
 
@@ -67,7 +67,7 @@ with_mids t ms = record t { mids = t.mids ++ ms }
 record Ran (o : Option Open) (tops : List TopEntry) : Type 0 where
   ends : Open
   is : o ≡ Some ends
-  tops_are : whole ends ≡ tops
+  tops_are : document_so_far ends ≡ tops
   opens : IsOpen ends
 
 four_split : (kind : Kind) (m : MidEntry) (ms : List MidEntry) → (not (is_vendor kind) || list_all has_four (m ∷ ms)) ≡ true → ((is_vendor kind && not (m.digits == 4)) ≡ false) × ((not (is_vendor kind) || list_all has_four ms) ≡ true)
@@ -104,25 +104,25 @@ run_mids (m ∷ ms) tops t mid opens four =
       opens = rest.opens;
     }
 
-tried_top : (o : Open) (t : TopEntry) → tried (Some o) (top_line t) ≡ Some (at (whole o) (Some (record t { mids = [] })) None)
+tried_top : (o : Open) (t : TopEntry) → tried (Some o) (top_line t) ≡ Some (at (document_so_far o) (Some (record t { mids = [] })) None)
 unfolding put misplaced_in
 tried_top o t = refl
 
-run_tops : (ts : List TopEntry) (o : Open) → IsOpen o → list_all is_sound_top ts ≡ true → Ran (run (Some o) (tops_lines ts)) (whole o ++ ts)
+run_tops : (ts : List TopEntry) (o : Open) → IsOpen o → list_all is_sound_top ts ≡ true → Ran (run (Some o) (tops_lines ts)) (document_so_far o ++ ts)
 unfolding tops_lines run
-run_tops [] o opens sound = record { ends = o; is = refl; tops_are = sym (append-nil (whole o)); opens = opens }
+run_tops [] o opens sound = record { ends = o; is = refl; tops_are = sym (append-nil (document_so_far o)); opens = opens }
 run_tops (t ∷ ts) o opens sound =
     let parts = both (is_sound_top t) (list_all is_sound_top ts) sound in
-    let mids = run_mids t.mids (whole o) (record t { mids = [] }) None refl parts.0 in
+    let mids = run_mids t.mids (document_so_far o) (record t { mids = [] }) None refl parts.0 in
     let rest = run_tops ts mids.ends mids.opens parts.1 in
     let one : run (Some o) (tops_lines (t ∷ ts)) ≡ run (Some mids.ends) (tops_lines ts) =
     ap (λ (x : Option Open). run x (mids_lines t.mids ++ tops_lines ts)) (tried_top o t)
-    ∙ (run_append (Some (at (whole o) (Some (record t { mids = [] })) None)) (mids_lines t.mids) (tops_lines ts)
+    ∙ (run_append (Some (at (document_so_far o) (Some (record t { mids = [] })) None)) (mids_lines t.mids) (tops_lines ts)
     ∙ ap (λ (x : Option Open). run x (tops_lines ts)) mids.is) in
     record {
       ends = rest.ends;
       is = one ∙ rest.is;
-      tops_are = rest.tops_are ∙ (ap (λ (x : List TopEntry). x ++ ts) mids.tops_are ∙ append_assoc (whole o) (t ∷ []) ts);
+      tops_are = rest.tops_are ∙ (ap (λ (x : List TopEntry). x ++ ts) mids.tops_are ∙ append_assoc (document_so_far o) (t ∷ []) ts);
       opens = rest.opens;
     }
 
@@ -136,7 +136,7 @@ document_is_one a b sa sb e =
     let rb = run_document b sb in
     let ends : Some ra.ends ≡ Some rb.ends = sym ra.is ∙ (ap (run (Some (none_open []))) e ∙ rb.is) in
     let same : ra.ends ≡ rb.ends = cc in
-    sym ra.tops_are ∙ (ap whole same ∙ rb.tops_are)
+    sym ra.tops_are ∙ (ap document_so_far same ∙ rb.tops_are)
 
 pub one_spelt : (ls : List (List ℕ)) (a b : List TopEntry) → AreLinesOf ls a → AreLinesOf ls b → a ≡ b
 one_spelt ls a b sa sb = let e : Some (preorder a) ≡ Some (preorder b) = sym sa.entry_lines ∙ sb.entry_lines in document_is_one a b sa.sound sb.sound (cc)
@@ -149,14 +149,14 @@ unfolding run
 no_place d before entry_line more why sd sb bad e =
     let rd = run_document d sd in
     let rb = run_document before sb in
-    let doc : whole rb.ends ≡ before = rb.tops_are in
+    let doc : document_so_far rb.ends ≡ before = rb.tops_are in
     let place : misplaced_in rb.ends entry_line ≡ Some why = misplaced_same rb.ends entry_line rb.opens ∙ (ap (λ (x : List TopEntry). misplaced x entry_line) doc ∙ bad) in
     let stops : run (Some (none_open [])) (preorder before ++ entry_line ∷ more) ≡ None =
     run_append (Some (none_open [])) (preorder before) (entry_line ∷ more) ∙ (ap (λ (o : Option Open). run (tried o entry_line) more) rb.is ∙ (ap (λ (o : Option Open). run o more) (tried_misplaced rb.ends entry_line why place) ∙ run_none more)) in
     let goes : None ≡ Some rd.ends = sym stops ∙ (ap (run (Some (none_open []))) e ∙ rd.is) in
     absurd cc
 
-faulty_entry : (d before : List TopEntry) (c : Result (Option EntryLine) Why) (more : Option (List EntryLine)) (why : Why) → IsSound d → IsSound before → fault_of before c ≡ Some why → joined (Some (preorder before)) (with_line c more) ≡ Some (preorder d) → ⊥
+faulty_entry : (d before : List TopEntry) (c : Result (Option EntryLine) Why) (more : Option (List EntryLine)) (why : Why) → IsSound d → IsSound before → line_fault before c ≡ Some why → joined (Some (preorder before)) (with_line c more) ≡ Some (preorder d) → ⊥
 faulty_entry d before (Err w) more why sd sb bad e = absurd cc
 faulty_entry d before (Ok None) more why sd sb bad e = absurd cc
 faulty_entry d before (Ok (Some entry_line)) None why sd sb bad e = absurd cc
@@ -166,10 +166,10 @@ faulty_entry d before (Ok (Some entry_line)) (Some more) why sd sb bad e = no_pl
 pub not_both_at_once : (ls : List (List ℕ)) (d : List TopEntry) (n : ℕ) (why : Why) → AreLinesOf ls d → FaultIn ls n why → ⊥
 unfolding entries
 not_both_at_once ls d n why s f =
-    faulty_entry d f.doc (class_of f.line) (entries f.after) why s.sound f.lines_of.sound f.faulty
-    (ap (λ (r : Option (List EntryLine)). joined r (with_line (class_of f.line) (entries f.after))) (sym f.lines_of.entry_lines) ∙ (sym (entries_append f.before (f.line ∷ f.after)) ∙ (ap entries (sym f.cut) ∙ s.entry_lines)))
+    faulty_entry d f.doc (line_class f.line) (entries f.after) why s.sound f.lines_of.sound f.faulty
+    (ap (λ (r : Option (List EntryLine)). joined r (with_line (line_class f.line) (entries f.after))) (sym f.lines_of.entry_lines) ∙ (sym (entries_append f.before (f.line ∷ f.after)) ∙ (ap entries (sym f.cut) ∙ s.entry_lines)))
 
-with_class_faulty : (h : Held) (c : Result (Option EntryLine) Why) (why : Why) → IsOpen h.built → fault_of (whole h.built) c ≡ Some why → with_class h c ≡ refused h why
+with_class_faulty : (h : Held) (c : Result (Option EntryLine) Why) (why : Why) → IsOpen h.built → line_fault (document_so_far h.built) c ≡ Some why → with_class h c ≡ refused h why
 with_class_faulty h (Err w) why opens e = ap (refused h) (cc)
 with_class_faulty h (Ok None) why opens e = absurd cc
 with_class_faulty h (Ok (Some entry_line)) why opens e = ap (with_fault h entry_line) (misplaced_same h.built entry_line opens ∙ e)
@@ -179,10 +179,10 @@ unfolding done
 done_append h [] b = refl
 done_append h (l ∷ a) b = done_append (if is_some h.fault then h else line_done h l) a b
 
-faulty_line : (h : Held) (l : List ℕ) (after : List (List ℕ)) (why : Why) → h.fault ≡ None → IsOpen h.built → fault_of (whole h.built) (class_of l) ≡ Some why → done h (l ∷ after) ≡ refused h why
+faulty_line : (h : Held) (l : List ℕ) (after : List (List ℕ)) (why : Why) → h.fault ≡ None → IsOpen h.built → line_fault (document_so_far h.built) (line_class l) ≡ Some why → done h (l ∷ after) ≡ refused h why
 unfolding line_done
 faulty_line h l after why clear opens e =
-    done_good h l after clear ∙ (ap (λ (k : Held). done k after) (with_class_faulty h (class_of l) why opens e) ∙ done_fault (refused h why) after refl)
+    done_good h l after clear ∙ (ap (λ (k : Held). done k after) (with_class_faulty h (line_class l) why opens e) ∙ done_fault (refused h why) after refl)
 
 -- a reader of lines with a fault has that fault
 pub fault_found : (ls : List (List ℕ)) (n : ℕ) (why : Why) → AreInner ls → FaultIn ls n why → (done start.held ls).fault ≡ Some (Line (record { line = n; why = why }))
@@ -190,8 +190,8 @@ fault_found ls n why inner f = elim (verdict_of f.before (are_inner_before ls f.
   | inr b ↦ absurd (not_both_at_once f.before f.doc b.fault.line b.fault.why f.lines_of b.faulty)
   | inl g ↦
       let h : Held = done start.held f.before in
-      let same : f.doc ≡ whole h.built = one_spelt f.before f.doc (whole h.built) f.lines_of g.lines_of in
-      let stop : done h (f.line ∷ f.after) ≡ refused h why = faulty_line h f.line f.after why g.clear g.opens (ap (λ (d : List TopEntry). fault_of d (class_of f.line)) (sym same) ∙ f.faulty) in
+      let same : f.doc ≡ document_so_far h.built = one_spelt f.before f.doc (document_so_far h.built) f.lines_of g.lines_of in
+      let stop : done h (f.line ∷ f.after) ≡ refused h why = faulty_line h f.line f.after why g.clear g.opens (ap (λ (d : List TopEntry). line_fault d (line_class f.line)) (sym same) ∙ f.faulty) in
       let number : h.line ≡ n = g.number ∙ sym f.number in
       ap (λ (x : List (List ℕ)). (done start.held x).fault) f.cut ∙ (ap (λ (k : Held). k.fault) (done_append start.held f.before (f.line ∷ f.after) ∙ stop)
       ∙ ap (λ (m : ℕ). Some (Line (record { line = m; why = why }))) number)

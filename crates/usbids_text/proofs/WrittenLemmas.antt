@@ -6,7 +6,7 @@ use Rattle.std.proofs.lemmas.Bool.{le-ltb}
 use Rattle.std.proofs.lemmas.Bool.Decides.{nat_tests}
 use Rattle.usbids_text.specs.Words.{is_inner, trimmed, before, past_separators}
 use Rattle.usbids_text.specs.Entries.{EntryLine, TopEntry, preorder, is_line, IsSound}
-use Rattle.usbids_text.specs.Lines.{class_of, is_comment}
+use Rattle.usbids_text.specs.Lines.{line_class, is_comment}
 use Rattle.usbids_text.specs.Cut.{cut, lines, with_rest}
 use Rattle.usbids_text.specs.Documents.{entries, with_line, IsTextOf}
 use Rattle.usbids_text.specs.Moments.{Moment}
@@ -35,17 +35,17 @@ lines_line : (l rest : List ℕ) → list_all is_inner l ≡ true → lines (l +
 unfolding lines
 lines_line l rest e = ap (λ (c : Pieces). with_rest c.0 c.1) (cut_line l 10 rest (is_part_of l e) refl) ∙ with_rest_line l (cut rest).0 (cut rest).1
 
-entries_line : (l rest : List ℕ) (entry_line : EntryLine) (entry_lines : List EntryLine) → list_all is_inner l ≡ true → class_of l ≡ Ok (Some entry_line) → entries (lines rest) ≡ Some entry_lines → entries (lines (l ++ 10 ∷ rest)) ≡ Some (entry_line ∷ entry_lines)
+entries_line : (l rest : List ℕ) (entry_line : EntryLine) (entry_lines : List EntryLine) → list_all is_inner l ≡ true → line_class l ≡ Ok (Some entry_line) → entries (lines rest) ≡ Some entry_lines → entries (lines (l ++ 10 ∷ rest)) ≡ Some (entry_line ∷ entry_lines)
 unfolding entries
 entries_line l rest entry_line entry_lines inner is e =
     ap entries (lines_line l rest inner)
-    ∙ (ap (λ (o : Option (List EntryLine)). with_line (class_of l) o) e ∙ rw is refl)
+    ∙ (ap (λ (o : Option (List EntryLine)). with_line (line_class l) o) e ∙ rw is refl)
 
-entries_none : (l rest : List ℕ) (entry_lines : List EntryLine) → list_all is_inner l ≡ true → class_of l ≡ Ok None → entries (lines rest) ≡ Some entry_lines → entries (lines (l ++ 10 ∷ rest)) ≡ Some entry_lines
+entries_none : (l rest : List ℕ) (entry_lines : List EntryLine) → list_all is_inner l ≡ true → line_class l ≡ Ok None → entries (lines rest) ≡ Some entry_lines → entries (lines (l ++ 10 ∷ rest)) ≡ Some entry_lines
 unfolding entries
 entries_none l rest entry_lines inner is e =
     ap entries (lines_line l rest inner)
-    ∙ (ap (λ (o : Option (List EntryLine)). with_line (class_of l) o) e ∙ rw is refl)
+    ∙ (ap (λ (o : Option (List EntryLine)). with_line (line_class l) o) e ∙ rw is refl)
 
 no_lines : entries (lines []) ≡ Some []
 unfolding entries lines cut
@@ -65,16 +65,16 @@ lines_read (entry_line ∷ entry_lines) e =
     ∙ entries_line (line_text (front entry_line.depth) entry_line.digits entry_line.code entry_line.name) (lines_text entry_lines) entry_line entry_lines (entry_inner entry_line p.0) (entry_read entry_line p.0) (lines_read entry_lines p.1)
 
 -- a comment is not an entry
-comment_class : (l : List ℕ) → length (35 ∷ l) ≤ 65536 → class_of (35 ∷ l) ≡ Ok None
-unfolding class_of
+comment_class : (l : List ℕ) → length (35 ∷ l) ≤ 65536 → line_class (35 ∷ l) ≡ Ok None
+unfolding line_class
 comment_class l short =
     let test : nat_lt 65536 (length (35 ∷ l)) ≡ false = le-ltb 65536 (length (35 ∷ l)) short in
     let kept : trimmed (35 ∷ l) ≡ 35 ∷ trimmed l = trimmed_some 35 l refl in
     let seen : is_comment (past_separators (trimmed (35 ∷ l))) ≡ true = ap (λ (x : List ℕ). is_comment (past_separators x)) kept ∙ ap is_comment (past_solid 35 (trimmed l) refl) in
     rw (test, seen) refl
 
-blank_class : class_of [] ≡ Ok None
-unfolding class_of trimmed before
+blank_class : line_class [] ≡ Ok None
+unfolding line_class trimmed before
 blank_class = refl
 
 digit_inner : (x : ℕ) → (48 + x == 10) ≡ false
@@ -92,17 +92,17 @@ version_inner m = simp digit_inner
 date_inner : (m : Moment) → list_all is_inner (date_line m) ≡ true
 date_inner m = simp digit_inner
 
-version_class : (m : Moment) → class_of (version_line m) ≡ Ok None
+version_class : (m : Moment) → line_class (version_line m) ≡ Ok None
 version_class m = comment_class _ (omega arith)
 
-date_class : (m : Moment) → class_of (date_line m) ≡ Ok None
+date_class : (m : Moment) → line_class (date_line m) ≡ Ok None
 date_class m = comment_class _ (omega arith)
 
 title_inner : list_all is_inner title ≡ true
 unfolding title
 title_inner = refl
 
-title_class : class_of title ≡ Ok None
+title_class : line_class title ≡ Ok None
 unfolding title
 title_class = comment_class _ (omega arith)
 

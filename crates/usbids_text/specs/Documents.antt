@@ -4,7 +4,7 @@ use Rattle.usbids_text.specs.declared.line.Why.{Why}
 use Rattle.usbids_text.specs.declared.line.Why.TheVariants.{BadCode, NoParent}
 use Rattle.usbids_text.specs.declared.kind.Depth.TheVariants.{Zero, One, Two}
 use Rattle.usbids_text.specs.Entries.{EntryLine, MidEntry, TopEntry, preorder, is_vendor, IsSound}
-use Rattle.usbids_text.specs.Lines.{class_of}
+use Rattle.usbids_text.specs.Lines.{line_class}
 use Rattle.usbids_text.specs.Cut.{lines}
 
 -- puts a line's entry, if it has one, before the other entries
@@ -16,7 +16,7 @@ with_line (Ok (Some entry_line)) rest = option_map (λ rs. entry_line ∷ rs) re
 -- the entries of these lines, or None if a line is faulty
 unfoldable pub entries : List (List ℕ) → Option (List EntryLine)
 entries [] = Some []
-entries (l ∷ ls) = with_line (class_of l) (entries ls)
+entries (l ∷ ls) = with_line (line_class l) (entries ls)
 
 -- no line is faulty, and the entries of the lines are this document in preorder
 pub record AreLinesOf (ls : List (List ℕ)) (doc : List TopEntry) : Type 0 where
@@ -54,10 +54,10 @@ unfoldable pub misplaced : List TopEntry → EntryLine → Option Why
 misplaced doc entry_line = fault_at entry_line (last doc) (mid_of (last doc))
 
 -- the fault of a line that follows this document, if it has one
-abbrev pub fault_of : List TopEntry → Result (Option EntryLine) Why → Option Why
-fault_of doc (Err why) = Some why
-fault_of doc (Ok None) = None
-fault_of doc (Ok (Some entry_line)) = misplaced doc entry_line
+abbrev pub line_fault : List TopEntry → Result (Option EntryLine) Why → Option Why
+line_fault doc (Err why) = Some why
+line_fault doc (Ok None) = None
+line_fault doc (Ok (Some entry_line)) = misplaced doc entry_line
 
 -- the number of the line after line n, or after n lines; it stays at 2^64 - 1
 abbrev pub next : ℕ → ℕ
@@ -72,7 +72,7 @@ pub record FaultIn (ls : List (List ℕ)) (n : ℕ) (why : Why) : Type 0 where
   pub cut : ls ≡ before ++ line ∷ after
   pub number : n ≡ next (length before)
   pub lines_of : AreLinesOf before doc
-  pub faulty : fault_of doc (class_of line) ≡ Some why
+  pub faulty : line_fault doc (line_class line) ≡ Some why
 
 -- line n is the first faulty line of the text, for this reason
 abbrev pub FaultAt : List ℕ → ℕ → Why → Type 0

@@ -5,7 +5,7 @@ use Rattle.usbids_text.specs.declared.line.Why.TheVariants.{LineTooLong}
 use Rattle.usbids_text.specs.declared.fault.ReadFault.{ReadFault}
 use Rattle.usbids_text.specs.declared.fault.ReadFault.TheVariants.{Line}
 use Rattle.usbids_text.specs.Entries.{EntryLine}
-use Rattle.usbids_text.specs.Lines.{class_of}
+use Rattle.usbids_text.specs.Lines.{line_class}
 use Rattle.usbids_text.specs.Documents.{next}
 use Rattle.usbids_text.specs.Opens.{Open, none_open, put, misplaced_in}
 
@@ -29,7 +29,7 @@ with_class h (Err why) = refused h why
 
 -- the state after one more line
 unfoldable pub line_done : Held → List ℕ → Held
-line_done h line = with_class h (class_of line)
+line_done h line = with_class h (line_class line)
 
 -- the state after the bytes so far: the bytes of the incomplete line, and the state after the lines before it
 pub record Fed : Type 0 where

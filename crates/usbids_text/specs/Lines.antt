@@ -52,5 +52,5 @@ is_comment [] = true
 is_comment (b ∷ bytes) = b == 35
 
 -- a line of more than 65,536 bytes is faulty; blank lines and comments have no entry
-unfoldable pub class_of : List ℕ → Result (Option EntryLine) Why
-class_of line = if nat_lt 65536 (length line) then Err LineTooLong else (if is_comment (past_separators (trimmed line)) then Ok None else by_tabs (trimmed line))
+unfoldable pub line_class : List ℕ → Result (Option EntryLine) Why
+line_class line = if nat_lt 65536 (length line) then Err LineTooLong else (if is_comment (past_separators (trimmed line)) then Ok None else by_tabs (trimmed line))

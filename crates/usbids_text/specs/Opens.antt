@@ -29,15 +29,15 @@ whole_top None mid = None
 whole_top (Some t) mid = Some (with_mid t mid)
 
 -- the document so far
-abbrev pub whole : Open → List TopEntry
-whole o = with_top o.tops (whole_top o.top o.mid)
+abbrev pub document_so_far : Open → List TopEntry
+document_so_far o = with_top o.tops (whole_top o.top o.mid)
 
 -- these closed tops, and no open top
 abbrev pub none_open : List TopEntry → Open
 none_open tops = record { tops = tops; top = None; mid = None }
 
 abbrev pub put_top : Open → Kind → ℕ → ℕ → List ℕ → Open
-put_top o kind code digits name = record { tops = whole o; top = Some (record { kind = kind; code = code; digits = digits; name = name; mids = [] }); mid = None }
+put_top o kind code digits name = record { tops = document_so_far o; top = Some (record { kind = kind; code = code; digits = digits; name = name; mids = [] }); mid = None }
 
 abbrev pub put_mid : Open → ℕ → ℕ → List ℕ → Open
 put_mid o code digits name = record { tops = o.tops; top = whole_top o.top o.mid; mid = Some (record { code = code; digits = digits; name = name; leaves = [] }) }

@@ -14,5 +14,5 @@ abbrev pub over : Held → List ℕ → Held
 over h rest = if is_some h.fault then h else (if nat_lt 65536 (length rest) then refused h LineTooLong else h)
 
 -- the state after a text that may continue
-unfoldable pub outcome : Held → List ℕ → Held
-outcome h text = over (done h (cut text).0) (cut text).1
+unfoldable pub held_after : Held → List ℕ → Held
+held_after h text = over (done h (cut text).0) (cut text).1

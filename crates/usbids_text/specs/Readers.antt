@@ -10,9 +10,9 @@ abbrev pub reader_state : Reader → Fed
 reader_state r = record { pending = r.pending.items; held = held_of r.taken }
 
 -- the fault that the reader returns from now on
-abbrev pub fault_of : Reader → Option ReadFault
-fault_of r = r.taken.fault
+abbrev pub reader_fault : Reader → Option ReadFault
+reader_fault r = r.taken.fault
 
 -- the reader was fed exactly these bytes, or it has run out of memory and stays so
 abbrev pub WasFed : Reader → List ℕ → Type 0
-WasFed r text = (fault_of r ≡ Some NoMemory) ⊎ (reader_state r ≡ fed start text)
+WasFed r text = (reader_fault r ≡ Some NoMemory) ⊎ (reader_state r ≡ fed start text)

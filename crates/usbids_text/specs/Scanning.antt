@@ -13,10 +13,10 @@ use Rattle.usbids_text.specs.declared.seen.Over.TheVariants as over
 use Rattle.usbids_text.specs.declared.seen.Seen.{Seen}
 use Rattle.usbids_text.specs.declared.seen.Wanted.{Wanted}
 use Rattle.usbids_text.specs.Entries.{EntryLine, TopEntry}
-use Rattle.usbids_text.specs.Lines.{class_of}
+use Rattle.usbids_text.specs.Lines.{line_class}
 use Rattle.usbids_text.specs.Documents.{next}
 use Rattle.usbids_text.specs.Finding.{find_mid}
-use Rattle.usbids_text.specs.Opens.{whole, open_mid}
+use Rattle.usbids_text.specs.Opens.{document_so_far, open_mid}
 use Rattle.usbids_text.specs.Feeding.{Held, Fed}
 
 -- ---- the state between lines
@@ -31,7 +31,7 @@ over_of vendor (Some t) = over_kind vendor t.kind t.code
 
 -- the part of this reader's state that a search keeps
 abbrev pub seen_of : Wanted → Held → Seen
-seen_of wanted h = record { line = h.line; over = over_of wanted.vendor h.built.top; has_mid = is_some (open_mid h.built.top h.built.mid); found = find_mid wanted.vendor wanted.code (whole h.built); fault = h.fault }
+seen_of wanted h = record { line = h.line; over = over_of wanted.vendor h.built.top; has_mid = is_some (open_mid h.built.top h.built.mid); found = find_mid wanted.vendor wanted.code (document_so_far h.built); fault = h.fault }
 
 -- ---- one line
 
@@ -79,7 +79,7 @@ seen_class wanted q (Err why) = seen_refused q why
 
 -- the state after one more line
 unfoldable pub seen_line : Wanted → Seen → List ℕ → Seen
-seen_line wanted q line = seen_class wanted q (class_of line)
+seen_line wanted q line = seen_class wanted q (line_class line)
 
 -- the state after one more line; the first fault stays
 abbrev pub seen_step : Wanted → Seen → List ℕ → Seen

@@ -3,7 +3,7 @@ ghost use Rattle.std.specs.Prelude.{◌≡◌, [], OnOk, IfOk, IsTrue, Option, S
 ghost use Rattle.usbids_text.specs.Words.{is_code, is_name};
 ghost use Rattle.usbids_text.specs.Entries.{is_depth, is_line};
 ghost use Rattle.usbids_text.specs.Lines.{line_of};
-ghost use Rattle.usbids_text.specs.Opens.{none_open, whole_top, whole, put_top, put_mid, put_leaf, put, misplaced_in, fits_in, has_room_in};
+ghost use Rattle.usbids_text.specs.Opens.{none_open, whole_top, document_so_far, put_top, put_mid, put_leaf, put, misplaced_in, fits_in, has_room_in};
 ghost use Rattle.usbids_text.specs.declared.kind.Depth.TheVariants.{Zero};
 
 use crate::document::{Document, Leaf, Mid, Top};
@@ -62,7 +62,7 @@ impl Builder {
     }
 
     fn close_top(&mut self) -> Result<(), NoMemory>
-        ensures { OnOk result (open_of self.new ≡ none_open (whole (open_of self.old))) }
+        ensures { OnOk result (open_of self.new ≡ none_open (document_so_far (open_of self.old))) }
     {
         self.close_mid()?;
         match self.top.take() {
@@ -163,7 +163,7 @@ impl Builder {
 
     /// Returns the document of all entries.
     pub fn finish(mut self) -> Result<Document, NoMemory>
-        ensures { IfOk result (λ doc. doc ≡ whole (open_of self)) }
+        ensures { IfOk result (λ doc. doc ≡ document_so_far (open_of self)) }
     {
         self.close_top()?;
         Ok(self.tops)

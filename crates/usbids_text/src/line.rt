@@ -2,7 +2,7 @@
 ghost use Rattle.std.specs.Prelude.{◌≡◌, ◌≤◌, ℕ, MatchResult, Ok, Err, Option, Some, length};
 ghost use Rattle.usbids_text.specs.Faults.{why_number, why_text};
 ghost use Rattle.usbids_text.specs.Words.{HasFour};
-ghost use Rattle.usbids_text.specs.Lines.{entry_lines, short_enough, below, tagged, top, after_tab, by_tabs, is_comment, class_of, line_of};
+ghost use Rattle.usbids_text.specs.Lines.{entry_lines, short_enough, below, tagged, top, after_tab, by_tabs, is_comment, line_class, line_of};
 
 use crate::kind::{Depth, Kind};
 use crate::tag::Tag;
@@ -160,9 +160,9 @@ fn is_comment(bytes: &[u8]) -> bool
 
 /// Returns the entry of a line without its line feed, None for a comment or a blank line, or the
 /// line's fault.
-#[tactic(auto, unfolding(crate::specs::Lines::class_of))]
+#[tactic(auto, unfolding(crate::specs::Lines::line_class))]
 pub fn class_of(line: &[u8]) -> Result<Option<Entry<'_>>, Why>
-    ensures { MatchResult result (λ o. class_of line.now ≡ Ok (entry_lines o)) (λ e. class_of line.now ≡ Err e) }
+    ensures { MatchResult result (λ o. line_class line.now ≡ Ok (entry_lines o)) (λ e. line_class line.now ≡ Err e) }
 {
     if line.len() > 65536 {
         return Err(Why::LineTooLong);

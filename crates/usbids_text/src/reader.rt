@@ -27,7 +27,7 @@ pub struct Reader {
 
 impl Reader {
     ghost use Rattle.usbids_text.specs.Held.{held_of};
-    ghost use Rattle.usbids_text.specs.Readers.{reader_state, fault_of, WasFed};
+    ghost use Rattle.usbids_text.specs.Readers.{reader_state, reader_fault, WasFed};
 
     // Ends the pending line with these bytes.
     fn end_pending(&mut self, part: &[u8]) -> Result<(), NoMemory>
@@ -91,7 +91,7 @@ impl Reader {
     }
 
     fn take_piece(&mut self, piece: &[u8])
-        ensures { (fault_of self.new ≡ Some ReadFault.NoMemory) ⊎ (reader_state self.new ≡ fed (reader_state self.old) piece.now) }
+        ensures { (reader_fault self.new ≡ Some ReadFault.NoMemory) ⊎ (reader_state self.new ≡ fed (reader_state self.old) piece.now) }
     {
         if self.feed_bytes(piece).is_err() {
             self.taken.fault = Some(ReadFault::NoMemory);
@@ -99,7 +99,7 @@ impl Reader {
     }
 
     fn answer(&self) -> Result<(), ReadFault>
-        ensures { result ≡ answer_of (fault_of self.now) }
+        ensures { result ≡ answer_of (reader_fault self.now) }
     {
         match self.taken.fault {
             Some(fault) => Err(fault),
@@ -120,7 +120,7 @@ impl Reader {
     /// Makes a reader that was fed no bytes.
     pub fn new(alloc: Global) -> Reader
         ensures was_fed { WasFed result [] }
-        ensures clear { fault_of result ≡ None }
+        ensures clear { reader_fault result ≡ None }
     {
         Reader {
             pending: Vec::new(alloc),
@@ -140,10 +140,10 @@ impl Reader {
     /// or out of memory. All later calls return the same fault, `finish` too.
     pub fn feed(&mut self, piece: &[u8]) -> Result<(), ReadFault>
         ensures was_fed { (t : List ℕ) → WasFed self.old t → WasFed self.new (t ++ piece.now) }
-        ensures answer { result ≡ answer_of (fault_of self.new) }
-        ensures faulty { (t : List ℕ) → WasFed self.old t → AnswersSoFar (t ++ piece.now) (fault_of self.new) }
-        ensures seen { (t : List ℕ) (n : ℕ) (why : Why) → WasFed self.old t → SeenFault (t ++ piece.now) n why → HasFault (fault_of self.new) n why }
-        ensures sticks { is_some (fault_of self.old) ≡ true → self.new ≡ self.old }
+        ensures answer { result ≡ answer_of (reader_fault self.new) }
+        ensures faulty { (t : List ℕ) → WasFed self.old t → AnswersSoFar (t ++ piece.now) (reader_fault self.new) }
+        ensures seen { (t : List ℕ) (n : ℕ) (why : Why) → WasFed self.old t → SeenFault (t ++ piece.now) n why → HasFault (reader_fault self.new) n why }
+        ensures sticks { is_some (reader_fault self.old) ≡ true → self.new ≡ self.old }
     {
         if let Some(fault) = self.taken.fault {
             return Err(fault);
@@ -159,7 +159,7 @@ impl Reader {
     /// The first faulty line, or out of memory.
     pub fn finish(mut self) -> Result<Document, ReadFault>
         ensures answers { (t : List ℕ) → WasFed self t → ReadsAs t result }
-        ensures sticks { (f : ReadFault) → fault_of self ≡ Some f → result ≡ Err f }
+        ensures sticks { (f : ReadFault) → reader_fault self ≡ Some f → result ≡ Err f }
     {
         if let Some(fault) = self.taken.fault {
             return Err(fault);

@@ -3,7 +3,7 @@ ghost use Rattle.std.specs.Prelude.{◌≡◌, ◌⊎◌, None, Some, OnOk, IfOk
 ghost use Rattle.std.specs.List.{list_all};
 ghost use Rattle.usbids_text.specs.Words.{is_inner};
 ghost use Rattle.usbids_text.specs.Documents.{next};
-ghost use Rattle.usbids_text.specs.Opens.{whole};
+ghost use Rattle.usbids_text.specs.Opens.{document_so_far};
 ghost use Rattle.usbids_text.specs.Building.{open_of};
 ghost use Rattle.usbids_text.specs.Feeding.{refused, line_done, step};
 
@@ -75,7 +75,7 @@ impl Taken {
 
     /// Returns the document of the lines, or the first fault.
     pub fn finish(self) -> Result<Document, ReadFault>
-        ensures ok { IfOk result (λ doc. (self.fault ≡ None) × (doc ≡ whole (open_of self.builder))) }
+        ensures ok { IfOk result (λ doc. (self.fault ≡ None) × (doc ≡ document_so_far (open_of self.builder))) }
         ensures err { IfErr result (λ e. (e ≡ ReadFault.NoMemory) ⊎ (self.fault ≡ Some e)) }
     {
         let Taken {

@@ -1,6 +1,7 @@
 use Rattle.std.proofs.Common.{ℕ, sym, arith}
 use Rattle.registry_rows.proofs.GivenLemmas.{whole_given}
-use Rattle.registry_rows.specs.Rows.{IsPetition, IsTerms}
+use Rattle.registry_rules.specs.Orders.{IsTerms}
+use Rattle.registry_rows.specs.Rows.{IsPetition}
 use Rattle.registry_rules.specs.declared.record.Petition.{Petition}
 use Rattle.registry_rows.proofs.UpdateLemmas.{closes_petition}
 use Rattle.registry_rows.proofs.StepLemmas.{changed}
