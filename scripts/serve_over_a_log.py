@@ -158,7 +158,7 @@ def with_a_password(usbreg, room, members, stores):
         return [usbreg, "apply", stores[0], order, "--log", address.replace("//", f"//{user}"), "--verbose"]
 
     refused = "the name or the password is refused"
-    for user, why in (("", "gives an answer that is none of etcd"), ("reg:other@", refused), (f"nobody:{PASSWORD}@", refused)):
+    for user, why in (("", "refuses the message, and may ask for a name and a password"), ("reg:other@", refused), (f"nobody:{PASSWORD}@", refused)):
         fails(apply(user), 1, f"fault: log\nusbreg: {address}: {why}\n")
     same("an order with the password", done(apply(f"reg:{PASSWORD}@")).decode(), f'{{"done":"enrolled org{CLIENTS * ORDERS + 3}"}}\n')
     log = ["--log", address.replace("//", f"//reg:{PASSWORD}@"), "--verbose"]

@@ -170,6 +170,8 @@ fn words_for_answer(fault: AnswerFault) -> &'static str {
         AnswerFault::BadToken | AnswerFault::Forbidden | AnswerFault::BadLogin => {
             "the name or the password is refused"
         }
+        // The answer of an etcd that has users to a message without a token.
+        AnswerFault::BadStatus(400) => "refuses the message, and may ask for a name and a password",
         AnswerFault::BadStatus(_)
         | AnswerFault::TooLong
         | AnswerFault::BadJson
