@@ -6,6 +6,7 @@ pub mod TextLemmas
 pub mod KindLemmas
 pub mod AcceptedLemmas
 pub mod LineLemmas
+pub mod OwnLineLemmas
 pub mod WholeLemmas
 pub mod ValidLemmas
 pub mod DigestLemmas

@@ -379,25 +379,3 @@ founding_object founding valid =
 pub founding_read : (founding : Founding) → IsValidFounding founding → record_reading (founding_line founding) ≡ Ok (lines.Founding founding)
 unfolding record_reading
 founding_read founding valid = ap (λ (found : Result Data WireRefusal). found >>= line_in) (founding_object founding valid) ∙ founding_in_line founding valid
-
--- ---- no two share a line
-
-accepted_of_line : (read : Result RecordLine WireRefusal) (otherwise : Accepted) → Accepted
-accepted_of_line (Ok (lines.Accepted accepted digest)) otherwise = accepted
-accepted_of_line (Ok (lines.Founding founding)) otherwise = otherwise
-accepted_of_line (Err refusal) otherwise = otherwise
-
-pub own_line : (a b : Accepted) → IsAccepted a → IsAccepted b → accepted_line a ≡ accepted_line b → a ≡ b
-unfolding accepted_of_line
-own_line a b of_a of_b same =
-    ap (λ (read : Result RecordLine WireRefusal). accepted_of_line read a) (sym (accepted_read a of_a) ∙ (ap record_reading same ∙ accepted_read b of_b))
-
-founding_of_line : (read : Result RecordLine WireRefusal) (otherwise : Founding) → Founding
-founding_of_line (Ok (lines.Founding founding)) otherwise = founding
-founding_of_line (Ok (lines.Accepted accepted digest)) otherwise = otherwise
-founding_of_line (Err refusal) otherwise = otherwise
-
-pub own_founding_line : (a b : Founding) → IsValidFounding a → IsValidFounding b → founding_line a ≡ founding_line b → a ≡ b
-unfolding founding_of_line
-own_founding_line a b of_a of_b same =
-    ap (λ (read : Result RecordLine WireRefusal). founding_of_line read a) (sym (founding_read a of_a) ∙ (ap record_reading same ∙ founding_read b of_b))

@@ -24,7 +24,8 @@ use Rattle.shared_log.specs.Calls.{LogLines, Grows, AppendMeans}
 use Rattle.shared_log.specs.declared.answers.AppendAnswer.TheVariants.{Appended}
 use Rattle.registry_laws.specs.Records.{IsAccepted, record_of}
 use Rattle.registry_laws.specs.Machines.{IsOfMachine, BeginsWith, LeadsToLater, HaveOneHistory, HaveOneOwner, HaveEachRequest, BeginsWithAppended}
-use Rattle.registry_laws.proofs.LineLemmas.{own_line, own_founding_line, accepted_read, founding_read}
+use Rattle.registry_laws.proofs.LineLemmas.{accepted_read, founding_read}
+use Rattle.registry_laws.proofs.OwnLineLemmas.{own_line, own_founding_line}
 
 -- ---- lists
 
