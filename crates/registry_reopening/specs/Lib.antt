@@ -3,3 +3,4 @@ pub mod Recovery
 pub mod Applied
 pub mod Served
 pub mod Opening
+pub mod Chained

@@ -11,8 +11,10 @@
 //! [`run_in_memory`] says `ended` of disks in memory, without a premise. [`run_and_crash`] is one
 //! run and one crash, and [`run_and_crash_twice`] chains two of them: the second run is over a
 //! history that the first one and its crash left (`LeadsThrough`), with a registry that is not
-//! poisoned, whatever the store holds. [`crash_and_run_through`] says `clean` and `ended` of a
-//! store of any schema, and gives back nothing of a run that does not finish.
+//! poisoned, whatever the store holds. If one of the two opens no registry, the files that come
+//! back hold what the last of its runs left (`LeavesFilesAfterRun`, `LeavesFilesAfterSecond`).
+//! [`crash_and_run_through`] says `clean` and `ended` of a store of any schema, and gives back
+//! nothing of a run that does not finish.
 //!
 //! A registry that is closed, abandoned or crashed opens again, if it opens, at the history that it
 //! represented; if it is poisoned, at the history before the failed request or after it
