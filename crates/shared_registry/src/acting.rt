@@ -64,16 +64,11 @@ fn act_and_look<S: Alter, L: Log>(
     ensures passes { IfOk result (λ reply. reply ≡ None → (cursor.old.next < cursor.new.next) × (cursor.new.next < 2 ^ 32)) }
 {
     let before = cursor.next;
-    let tried = match try_to_act(registry, cursor, request) {
-        Ok(tried) => tried,
-        Err(stop) => return Err(stop),
-    };
+    let tried = try_to_act(registry, cursor, request)?;
     if cursor.next != before {
         return Ok(tried);
     }
-    if let Err(stop) = follow(registry, cursor) {
-        return Err(stop);
-    }
+    follow(registry, cursor)?;
     if cursor.next > before {
         return Ok(None);
     }
@@ -112,10 +107,8 @@ pub fn act<S: Alter, L: Log>(
         return Err(ShareStop::Registry(Fault::Poisoned));
     }
     loop {
-        match act_and_look(registry, cursor, request) {
-            Ok(Some(reply)) => return Ok(reply),
-            Ok(None) => {}
-            Err(stop) => return Err(stop),
+        if let Some(reply) = act_and_look(registry, cursor, request)? {
+            return Ok(reply);
         }
     }
 }

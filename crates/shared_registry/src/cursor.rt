@@ -33,6 +33,17 @@ pub enum AppendFault {
     Log(LogFault),
 }
 
+impl From<LogFault> for AppendFault {
+    ghost use Rattle.std.specs.Prelude.{◌≡◌};
+    ghost use Rattle.shared_registry.specs.declared.cursor.AppendFault.TheVariants.{Log as NoAnswer};
+
+    ghost from_gives = { λ cause fault. fault ≡ NoAnswer cause };
+
+    fn from(cause: LogFault) -> AppendFault {
+        AppendFault::Log(cause)
+    }
+}
+
 impl From<NoMemory> for AppendFault {
     ghost use Rattle.std.specs.Prelude.{◌≡◌};
     ghost use Rattle.shared_registry.specs.declared.cursor.AppendFault.TheVariants.{NoMemory as OutOfMemory};
@@ -77,17 +88,16 @@ impl<L: Log> Cursor<L> {
         if self.next == u32::MAX {
             return Err(AppendFault::Full);
         }
-        match self.log.append(self.alloc, self.next, line) {
-            Ok(AppendAnswer::Appended) => Ok(true),
-            Ok(AppendAnswer::Taken(other)) => {
+        match self.log.append(self.alloc, self.next, line)? {
+            AppendAnswer::Appended => Ok(true),
+            AppendAnswer::Taken(other) => {
                 if other.as_bytes() == line {
                     Ok(false)
                 } else {
                     Err(AppendFault::Taken)
                 }
             }
-            Ok(AppendAnswer::Behind) => Err(AppendFault::Behind),
-            Err(fault) => Err(AppendFault::Log(fault)),
+            AppendAnswer::Behind => Err(AppendFault::Behind),
         }
     }
 
@@ -98,13 +108,9 @@ impl<L: Log> Cursor<L> {
         ensures err { IfErr result (HasNoLine L.Log self.old self.new line.now) }
         ensures small { OnOk result (self.new.next < 2 ^ 32) }
     {
-        match self.offer(line) {
-            Ok(_is_new) => {
-                self.next += 1;
-                Ok(())
-            }
-            Err(fault) => Err(fault),
-        }
+        self.offer(line)?;
+        self.next += 1;
+        Ok(())
     }
 
     /// Appends a line under the next number, and passes it. A line that is there already is `Taken`,
@@ -113,14 +119,12 @@ impl<L: Log> Cursor<L> {
         ensures ok { OnOk result (TookLine L.Log self.old self.new line.now) }
         ensures err { IfErr result (HasNoNewLine L.Log self.old self.new line.now) }
     {
-        match self.offer(line) {
-            Ok(true) => {
-                self.next += 1;
-                Ok(())
-            }
-            Ok(false) => Err(AppendFault::Taken),
-            Err(fault) => Err(fault),
+        let is_new = self.offer(line)?;
+        if !is_new {
+            return Err(AppendFault::Taken);
         }
+        self.next += 1;
+        Ok(())
     }
 }
 

@@ -39,10 +39,8 @@ fn act_on_lines<S: Alter>(
         let Some(after) = next.checked_add(1) else {
             return Err(ShareStop::Full);
         };
-        match act_on_line(alloc, registry, *next, line) {
-            Ok(()) => *next = after,
-            Err(stop) => return Err(stop),
-        }
+        act_on_line(alloc, registry, *next, line)?;
+        *next = after;
     }
     Ok(())
 }
@@ -62,22 +60,17 @@ fn read_and_follow<S: Alter, L: Log>(
     ensures passes { IfOk result (λ more. (cursor.old.next ≤ cursor.new.next) × (more ≡ true → cursor.old.next < cursor.new.next)) }
     ensures small { OnOk result (cursor.new.next < 2 ^ 32) }
 {
-    let page = match cursor.log.page(cursor.alloc, cursor.next) {
-        Ok(page) => page,
-        Err(fault) => return Err(ShareStop::Log(fault)),
-    };
+    let page = cursor.log.page(cursor.alloc, cursor.next)?;
     if page.more && page.lines.is_empty() {
         return Err(ShareStop::Log(LogFault::BadAnswer));
     }
-    match act_on_lines(
+    act_on_lines(
         cursor.alloc,
         registry,
         &mut cursor.next,
         page.lines.as_slice(),
-    ) {
-        Ok(()) => Ok(page.more),
-        Err(stop) => Err(stop),
-    }
+    )?;
+    Ok(page.more)
 }
 
 /// Acts on all lines of the log that the registry has not acted on. After it, the registry has the
@@ -106,11 +99,6 @@ pub fn follow<S: Alter, L: Log>(
     if registry.is_poisoned() {
         return Err(ShareStop::Registry(Fault::Poisoned));
     }
-    loop {
-        match read_and_follow(registry, cursor) {
-            Ok(true) => {}
-            Ok(false) => return Ok(()),
-            Err(stop) => return Err(stop),
-        }
-    }
+    while read_and_follow(registry, cursor)? {}
+    Ok(())
 }

@@ -52,10 +52,9 @@ fn founding_in_page(alloc: Global, page: &[Line], more: bool) -> Result<Founding
             ShareStop::Empty
         });
     };
-    match founding_of(alloc, line) {
-        Ok(Some(founding)) => Ok(founding),
-        Ok(None) => Err(ShareStop::OtherRecord(0)),
-        Err(NoMemory) => Err(ShareStop::NoMemory),
+    match founding_of(alloc, line)? {
+        Some(founding) => Ok(founding),
+        None => Err(ShareStop::OtherRecord(0)),
     }
 }
 
@@ -71,9 +70,6 @@ pub fn read_founding<L: Log>(alloc: Global, log: &mut L) -> Result<Founding, Sha
     ensures err { (lines : L → LogLines) → KeepsLines L.Log lines → IfErr result (HasNoFounding L.Log lines log.old log.new) }
     ensures asks { IsLogAsked L.Log AppendsNothing log.old log.new }
 {
-    let page = match log.page(alloc, 0) {
-        Ok(page) => page,
-        Err(fault) => return Err(ShareStop::Log(fault)),
-    };
+    let page = log.page(alloc, 0)?;
     founding_in_page(alloc, page.lines.as_slice(), page.more)
 }

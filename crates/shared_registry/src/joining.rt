@@ -110,24 +110,13 @@ fn compare_part<S: Alter, L: Log>(
     ensures passes { IfOk result (λ more. more ≡ true → cursor.old.next < cursor.new.next) }
     ensures small { OnOk result (cursor.new.next < 2 ^ 32) }
 {
-    let ours = match record_part(cursor.alloc, registry, cursor.next) {
-        Ok(ours) => ours,
-        Err(stop) => return Err(stop),
-    };
+    let ours = record_part(cursor.alloc, registry, cursor.next)?;
     if ours.is_empty() {
         return Ok(false);
     }
-    let page = match cursor.log.page(cursor.alloc, cursor.next) {
-        Ok(page) => page,
-        Err(fault) => return Err(ShareStop::Log(fault)),
-    };
-    match compare_page(&ours, &page.lines, page.more, cursor.next) {
-        Ok(after) => {
-            cursor.next = after;
-            Ok(true)
-        }
-        Err(stop) => Err(stop),
-    }
+    let page = cursor.log.page(cursor.alloc, cursor.next)?;
+    cursor.next = compare_page(&ours, &page.lines, page.more, cursor.next)?;
+    Ok(true)
 }
 
 /// Compares the record with the log, from the place of the cursor on.
@@ -144,13 +133,8 @@ fn compare<S: Alter, L: Log>(
     ensures when_poisoned { is_poisoned registry.old ≡ true → result ≡ Err (ShareStop.Registry Fault.Poisoned) }
     ensures notes { NotesForeign registry.old registry.new (fault_in_call result) }
 {
-    loop {
-        match compare_part(registry, cursor) {
-            Ok(true) => {}
-            Ok(false) => return Ok(()),
-            Err(stop) => return Err(stop),
-        }
-    }
+    while compare_part(registry, cursor)? {}
+    Ok(())
 }
 
 /// Appends these lines, and passes them.
@@ -197,17 +181,12 @@ fn append_part<S: Alter, L: Log>(
     ensures passes { IfOk result (λ more. more ≡ true → cursor.old.next < cursor.new.next) }
     ensures small { OnOk result (cursor.new.next < 2 ^ 32) }
 {
-    let ours = match record_part(cursor.alloc, registry, cursor.next) {
-        Ok(ours) => ours,
-        Err(stop) => return Err(stop),
-    };
+    let ours = record_part(cursor.alloc, registry, cursor.next)?;
     if ours.is_empty() {
         return Ok(false);
     }
-    match append_lines(cursor, ours.as_slice()) {
-        Ok(()) => Ok(true),
-        Err(stop) => Err(stop),
-    }
+    append_lines(cursor, ours.as_slice())?;
+    Ok(true)
 }
 
 /// Appends the record to the log, from the place of the cursor on.
@@ -225,13 +204,8 @@ fn append_record<S: Alter, L: Log>(
     ensures notes { NotesForeign registry.old registry.new (fault_in_call result) }
     ensures never_ahead { result ≢ Err ShareStop.Ahead }
 {
-    loop {
-        match append_part(registry, cursor) {
-            Ok(true) => {}
-            Ok(false) => return Ok(()),
-            Err(stop) => return Err(stop),
-        }
-    }
+    while append_part(registry, cursor)? {}
+    Ok(())
 }
 
 /// Takes up a log that begins with the record of the registry: compares them line by line. Nothing is

@@ -54,14 +54,8 @@ fn first_line<S: Alter>(alloc: Global, registry: &mut Registry<S>) -> Result<Lin
     ensures untouched { IsUntouched registry.old registry.new }
     ensures notes { NotesForeign registry.old registry.new (fault_in_call result) }
 {
-    let founding = match registry.first_founding() {
-        Ok(founding) => founding,
-        Err(fault) => return Err(ShareStop::Registry(fault)),
-    };
-    match line_alone(alloc, &founding) {
-        Ok(lines) => Ok(lines),
-        Err(NoMemory) => Err(ShareStop::NoMemory),
-    }
+    let founding = registry.first_founding()?;
+    Ok(line_alone(alloc, &founding)?)
 }
 
 /// Returns lines of the record of the registry, from line `n` on. If there is one, returns at least
@@ -81,11 +75,6 @@ pub(crate) fn record_part<S: Alter>(
     let Some(before) = n.checked_sub(1) else {
         return first_line(alloc, registry);
     };
-    match registry.accepted_after(u64::from(before), PIECE) {
-        Ok(list) => match lines_of(alloc, &list) {
-            Ok(lines) => Ok(lines),
-            Err(NoMemory) => Err(ShareStop::NoMemory),
-        },
-        Err(fault) => Err(ShareStop::Registry(fault)),
-    }
+    let list = registry.accepted_after(u64::from(before), PIECE)?;
+    Ok(lines_of(alloc, &list)?)
 }

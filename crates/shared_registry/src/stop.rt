@@ -1,7 +1,7 @@
 //! Why a registry did not go on with its log.
 
 ghost use Rattle.std.specs.Prelude.{◌≡◌};
-ghost use Rattle.shared_registry.specs.declared.stop.ShareStop.TheVariants.{NoMemory as OutOfMemory};
+ghost use Rattle.shared_registry.specs.declared.stop.ShareStop.TheVariants as stops;
 
 use registry_store::Fault;
 use shared_log::LogFault;
@@ -27,8 +27,24 @@ pub enum ShareStop {
     NoMemory,
 }
 
+impl From<Fault> for ShareStop {
+    ghost from_gives = { λ fault stop. stop ≡ stops.Registry fault };
+
+    fn from(fault: Fault) -> ShareStop {
+        ShareStop::Registry(fault)
+    }
+}
+
+impl From<LogFault> for ShareStop {
+    ghost from_gives = { λ fault stop. stop ≡ stops.Log fault };
+
+    fn from(fault: LogFault) -> ShareStop {
+        ShareStop::Log(fault)
+    }
+}
+
 impl From<NoMemory> for ShareStop {
-    ghost from_gives = { λ _ stop. stop ≡ OutOfMemory };
+    ghost from_gives = { λ _ stop. stop ≡ stops.NoMemory };
 
     fn from(_error: NoMemory) -> ShareStop {
         ShareStop::NoMemory

@@ -1,4 +1,5 @@
 use Rattle.std.proofs.Common.{None}
+use Rattle.std.proofs.lemmas.Result.{err_from_is_err_and}
 use Rattle.registry_store.proofs.IsQueryLemmas.{notes_then}
 use Rattle.shared_registry.proofs.FollowLemmas.{grows_on}
 use Rattle.shared_registry.proofs.JoinLemmas.{clean_before, unshared_since, untouched_then}
@@ -6,33 +7,34 @@ use Rattle.shared_registry.specs.Asks.{AppendsRecord}
 use Rattle.shared_registry.proofs.AskLemmas.{asked_then}
 use Rattle.shared_registry.proofs.joining.append_record.Goals as goal
 
-pub loop-stop-preserved : goal.loop-stop-preserved
-loop-stop-preserved g c = record {
+pub loop-preserved : goal.loop-preserved
+loop-preserved g c = record {
   so_far = λ lines kept h stands valid passed clean.
-      let so_far = c.loop-stop.invariant.so_far lines kept h stands valid passed (clean_before c.loop-stop.registry c.append_part.new.registry c.in-Ok-true.ensures.untouched clean) in
-      let more = c.in-Ok-true.ensures.ok lines kept h (c.loop-stop.invariant.untouched.stays h stands) valid so_far.0 clean in
-      (more.0, grows_on (lines c.args.cursor.now.log) (lines c.loop-stop.cursor.log) (lines c.append_part.new.cursor.log) so_far.1 more.1);
+      let so_far = c.loop.invariant.so_far lines kept h stands valid passed (clean_before c.loop.registry c.append_part.new.registry c.in_ok-append_part.ensures.untouched clean) in
+      let more = c.in_ok-append_part.ensures.ok lines kept h (c.loop.invariant.untouched.stays h stands) valid so_far.0 clean in
+      (more.0, grows_on (lines c.args.cursor.now.log) (lines c.loop.cursor.log) (lines c.append_part.new.cursor.log) so_far.1 more.1);
   asks = λ h stands valid clean.
-      let mid = clean_before c.loop-stop.registry c.append_part.new.registry c.in-Ok-true.ensures.untouched clean in
-      asked_then g.L.Log (AppendsRecord h) c.args.cursor.now.log c.loop-stop.cursor.log c.append_part.new.cursor.log (c.loop-stop.invariant.asks h stands valid mid)
-      (c.in-Ok-true.ensures.asks h (c.loop-stop.invariant.untouched.stays h stands) valid clean);
-  untouched = untouched_then c.args.registry.now c.loop-stop.registry c.append_part.new.registry c.loop-stop.invariant.untouched c.in-Ok-true.ensures.untouched;
-  notes = notes_then c.args.registry.now c.loop-stop.registry c.append_part.new.registry None c.loop-stop.invariant.notes c.in-Ok-true.ensures.notes;
+      let mid = clean_before c.loop.registry c.append_part.new.registry c.in_ok-append_part.ensures.untouched clean in
+      asked_then g.L.Log (AppendsRecord h) c.args.cursor.now.log c.loop.cursor.log c.append_part.new.cursor.log (c.loop.invariant.asks h stands valid mid)
+      (c.in_ok-append_part.ensures.asks h (c.loop.invariant.untouched.stays h stands) valid clean);
+  untouched = untouched_then c.args.registry.now c.loop.registry c.append_part.new.registry c.loop.invariant.untouched c.in_ok-append_part.ensures.untouched;
+  notes = notes_then c.args.registry.now c.loop.registry c.append_part.new.registry None c.loop.invariant.notes c.in_ok-append_part.ensures.notes;
 }
 
-pub returns-in-Err-clause-err : goal.returns-in-Err-clause-err
-returns-in-Err-clause-err g c lines kept h stands valid passed clean =
-    let so_far = c.loop-stop.invariant.so_far lines kept h stands valid passed (clean_before c.loop-stop.registry c.append_part.new.registry c.in-Err.ensures.untouched clean) in
-    unshared_since g.L.Log lines h c.args.cursor.now.log c.loop-stop.cursor.log c.append_part.new.cursor.log so_far.1 c.in-Err.stop (c.in-Err.ensures.err lines kept h (c.loop-stop.invariant.untouched.stays h stands) valid so_far.0 clean)
+pub returns-in_err-append_part-clause-err : goal.returns-in_err-append_part-clause-err
+returns-in_err-append_part-clause-err g c lines kept h stands valid passed clean =
+    let p = err_from_is_err_and c.from_residual.result c.from_residual.ensures.1 in
+    let so_far = c.loop.invariant.so_far lines kept h stands valid passed (clean_before c.loop.registry c.append_part.new.registry c.in_err-append_part.ensures.untouched clean) in
+    rw (p.1, p.2) (unshared_since g.L.Log lines h c.args.cursor.now.log c.loop.cursor.log c.append_part.new.cursor.log so_far.1 c.in_err-append_part.field-0.0 (c.in_err-append_part.ensures.err lines kept h (c.loop.invariant.untouched.stays h stands) valid so_far.0 clean))
 
-pub returns-in-Err-clause-asks : goal.returns-in-Err-clause-asks
-returns-in-Err-clause-asks g c h stands valid clean =
-    let mid = clean_before c.loop-stop.registry c.append_part.new.registry c.in-Err.ensures.untouched clean in
-    asked_then g.L.Log (AppendsRecord h) c.args.cursor.now.log c.loop-stop.cursor.log c.append_part.new.cursor.log (c.loop-stop.invariant.asks h stands valid mid)
-    (c.in-Err.ensures.asks h (c.loop-stop.invariant.untouched.stays h stands) valid clean)
+pub returns-in_err-append_part-clause-asks : goal.returns-in_err-append_part-clause-asks
+returns-in_err-append_part-clause-asks g c h stands valid clean =
+    let mid = clean_before c.loop.registry c.append_part.new.registry c.in_err-append_part.ensures.untouched clean in
+    asked_then g.L.Log (AppendsRecord h) c.args.cursor.now.log c.loop.cursor.log c.append_part.new.cursor.log (c.loop.invariant.asks h stands valid mid)
+    (c.in_err-append_part.ensures.asks h (c.loop.invariant.untouched.stays h stands) valid clean)
 
-pub returns-in-Ok-false-clause-asks : goal.returns-in-Ok-false-clause-asks
-returns-in-Ok-false-clause-asks g c h stands valid clean =
-    let mid = clean_before c.loop-stop.registry c.append_part.new.registry c.in-Ok-false.ensures.untouched clean in
-    asked_then g.L.Log (AppendsRecord h) c.args.cursor.now.log c.loop-stop.cursor.log c.append_part.new.cursor.log (c.loop-stop.invariant.asks h stands valid mid)
-    (c.in-Ok-false.ensures.asks h (c.loop-stop.invariant.untouched.stays h stands) valid clean)
+pub returns-clause-asks : goal.returns-clause-asks
+returns-clause-asks g c h stands valid clean =
+    let mid = clean_before c.loop.registry c.append_part.new.registry c.in_ok-append_part.ensures.untouched clean in
+    asked_then g.L.Log (AppendsRecord h) c.args.cursor.now.log c.loop.cursor.log c.append_part.new.cursor.log (c.loop.invariant.asks h stands valid mid)
+    (c.in_ok-append_part.ensures.asks h (c.loop.invariant.untouched.stays h stands) valid clean)

@@ -9,8 +9,8 @@ use Rattle.shared_registry.specs.Asks.{AppendsRecord, IsLogAsked}
 use Rattle.shared_registry.specs.Records.{HasPassed}
 use Rattle.shared_registry.proofs.joining.append_record.Given as goal
 
-abbrev pub invariant-loop-stop : goal.invariant-loop-stop
-invariant-loop-stop g l = record {
+abbrev pub invariant-loop : goal.invariant-loop
+invariant-loop g l = record {
   so_far : (lines : g.row.L.Denot → LogLines) → KeepsLines g.L.Log lines → (h : History) → Represents l.initial.registry h → HasValidFields h → HasPassed lines l.initial.cursor h → HasCleanDisk (state_of l.registry)
       → HasPassed lines l.cursor h × Grows (lines l.initial.cursor.log) (lines l.cursor.log);
   untouched : IsUntouched l.initial.registry l.registry;
@@ -18,5 +18,5 @@ invariant-loop-stop g l = record {
   notes : NotesForeign l.initial.registry l.registry None;
 }
 
-abbrev pub decreases-loop-stop : goal.decreases-loop-stop
-decreases-loop-stop g l = 4294967295 - l.cursor.next
+abbrev pub decreases-loop : goal.decreases-loop
+decreases-loop g l = 4294967295 - l.cursor.next

@@ -13,11 +13,11 @@ returns-in_default-clause-ok g c h stands valid clean =
     let none : c.args.n ≡ 0 = omega (arith, c.in_default.ensures) in
     subst (λ (n : ℕ). IfOk c.first_line.result (IsNextPart (record_of h) n)) (sym none) (IfOk-weaker c.first_line.result _ _ (next_founding h) (c.first_line.ensures.ok h stands clean))
 
-pub returns-in-Ok-lines_of-clause-ok : goal.returns-in-Ok-lines_of-clause-ok
-returns-in-Ok-lines_of-clause-ok g c h stands valid clean =
+pub returns-clause-ok : goal.returns-clause-ok
+returns-clause-ok g c h stands valid clean =
     let before = c.in-Some.before in
-    let list = c.in-Ok.list.items in
-    let is : list ≡ take 1000 (drop before (accepted_of h.deeds)) = rw c.from.ensures at (c.in-Ok.ensures.query.answered h stands clean (valid_deeds h.deeds valid.accepted)) in
+    let list = c.in_ok-list.list.items in
+    let is : list ≡ take 1000 (drop before (accepted_of h.deeds)) = rw c.from.ensures at (c.in_ok-list.ensures.query.answered h stands clean (valid_deeds h.deeds valid.accepted)) in
     let n_is : c.args.n ≡ suc before = omega (arith, c.in-Some.ensures) in
-    let lines : c.in-Ok-lines_of.lines ≡ map accepted_line list = c.in-Ok-lines_of.ensures ∙ ap (map accepted_line) c.deref.ensures.value in
-    subst (λ (n : ℕ). IsNextPart (record_of h) n c.in-Ok-lines_of.lines) (sym n_is) (subst (λ (l : List (List ℕ)). IsNextPart (record_of h) (suc before) l) (sym lines) (next_requests h before 999 list is))
+    let lines : c.in_ok-lines_of.field-0 ≡ map accepted_line list = c.in_ok-lines_of.ensures ∙ ap (map accepted_line) c.deref.ensures.value in
+    subst (λ (n : ℕ). IsNextPart (record_of h) n c.in_ok-lines_of.field-0) (sym n_is) (subst (λ (l : List (List ℕ)). IsNextPart (record_of h) (suc before) l) (sym lines) (next_requests h before 999 list is))

@@ -1,5 +1,5 @@
 use Rattle.shared_registry.proofs.AppendLemmas.{offered_any}
 use Rattle.shared_registry.proofs.cursor.Cursor.append.Goals as goal
 
-pub returns-in-Ok-clause-ok : goal.returns-in-Ok-clause-ok
-returns-in-Ok-clause-ok g c = offered_any g.L.Log c.args.self.now c.offer.new.self c.args.line.now c.in-Ok._is_new c.in-Ok.ensures.ok
+pub returns-clause-ok : goal.returns-clause-ok
+returns-clause-ok g c = offered_any g.L.Log c.args.self.now c.offer.new.self c.args.line.now c.in_ok-offer.field-0 c.in_ok-offer.ensures.ok

@@ -1,11 +1,14 @@
+use Rattle.std.proofs.lemmas.Result.{err_from_is_err_and}
 use Rattle.shared_registry.proofs.AppendLemmas.{did_not_take, offered_new}
 use Rattle.shared_registry.proofs.cursor.Cursor.append_new.Goals as goal
 
-pub returns-in-Ok-true-clause-ok : goal.returns-in-Ok-true-clause-ok
-returns-in-Ok-true-clause-ok g c = offered_new g.L.Log c.args.self.now c.offer.new.self c.args.line.now (rw c.in-Ok-true.field-0-test at c.in-Ok-true.ensures.ok)
+pub returns-clause-ok : goal.returns-clause-ok
+returns-clause-ok g c = offered_new g.L.Log c.args.self.now c.offer.new.self c.args.line.now (rw c.if-not-is_new.false at c.in_ok-is_new.ensures.ok)
 
-pub returns-in-Ok-false-clause-err : goal.returns-in-Ok-false-clause-err
-returns-in-Ok-false-clause-err g c = let offered = rw c.in-Ok-false.field-0-test at c.in-Ok-false.ensures.ok in ((c.args.line.now, offered.0), offered.1)
+pub returns-then-not-is_new-clause-err : goal.returns-then-not-is_new-clause-err
+returns-then-not-is_new-clause-err g c = let offered = rw c.if-not-is_new.true at c.in_ok-is_new.ensures.ok in ((c.args.line.now, offered.0), offered.1)
 
-pub returns-in-Err-clause-err : goal.returns-in-Err-clause-err
-returns-in-Err-clause-err g c = did_not_take g.L.Log c.args.self.now c.offer.new.self c.args.line.now c.in-Err.fault c.in-Err.ensures.err
+pub returns-in_err-is_new-clause-err : goal.returns-in_err-is_new-clause-err
+returns-in_err-is_new-clause-err g c =
+    let p = err_from_is_err_and c.from_residual.result c.from_residual.ensures.1 in
+    rw (p.1, p.2) (did_not_take g.L.Log c.args.self.now c.offer.new.self c.args.line.now c.in_err-is_new.field-0.0 c.in_err-is_new.ensures.err)
