@@ -40,10 +40,8 @@ fn respond_to_order<S: Alter>(
     ensures when_poisoned { is_poisoned registry.old ≡ true → (result ≡ Err (desk_faults.Registry faults.Poisoned)) × (registry.new ≡ registry.old) }
     ensures endures { Endures (state_of registry.old) (state_of registry.new) }
 {
-    match registry.act(request) {
-        Ok(reply) => Ok(reply_response(alloc, &reply)?),
-        Err(fault) => Err(DeskFault::Registry(fault)),
-    }
+    let reply = registry.act(request).map_err(DeskFault::Registry)?;
+    Ok(reply_response(alloc, &reply)?)
 }
 
 /// Returns the response to a query: the one that is cached, which is taken out, or else a new one.

@@ -6,6 +6,7 @@ ghost use Rattle.registry_desk.specs.Faults.{unavailable_of, registry_fault, fai
 
 use registry_http::Unavailable;
 use registry_store::Fault;
+use std::alloc::AllocError;
 use usbnum_core::NoMemory;
 
 /// Why a message gets refusal 30 or 31 instead of a response of its own.
@@ -17,12 +18,16 @@ pub enum DeskFault {
     NoMemory,
 }
 
-/// Turns the fault of a query by `failed_by`. That of an order is `DeskFault::Registry`.
+/// Turns the fault of a query. Memory that runs out for a query is no fault of the registry, and
+/// does not end a server. The fault of an order is always `DeskFault::Registry`.
 impl From<Fault> for DeskFault {
     ghost from_gives = { λ fault gives. gives ≡ failed_by fault };
 
     fn from(fault: Fault) -> DeskFault {
-        failed_by(fault)
+        match fault {
+            Fault::NoMemory => DeskFault::NoMemory,
+            fault => DeskFault::Registry(fault),
+        }
     }
 }
 
@@ -34,17 +39,22 @@ impl From<NoMemory> for DeskFault {
     }
 }
 
+impl From<AllocError> for DeskFault {
+    ghost from_gives = { λ _ gives. gives ≡ OutOfMemory };
+
+    fn from(_error: AllocError) -> DeskFault {
+        DeskFault::NoMemory
+    }
+}
+
 /// Returns the refusal for a fault: 31 when out of memory, 30 for any other.
 pub fn unavailable_of(fault: DeskFault) -> Unavailable
     ensures { result ≡ unavailable_of fault }
 {
     match fault {
-        DeskFault::NoMemory => Unavailable::NoMemory,
-        DeskFault::Registry(Fault::NoMemory) => Unavailable::NoMemory,
-        DeskFault::Registry(Fault::Store) => Unavailable::StoreFault,
-        DeskFault::Registry(Fault::Foreign) => Unavailable::StoreFault,
-        DeskFault::Registry(Fault::Taken) => Unavailable::StoreFault,
-        DeskFault::Registry(Fault::Poisoned) => Unavailable::StoreFault,
+        DeskFault::NoMemory | DeskFault::Registry(Fault::NoMemory) => Unavailable::NoMemory,
+        DeskFault::Registry(Fault::Store | Fault::Foreign | Fault::Taken | Fault::Poisoned) =>
+            Unavailable::StoreFault,
     }
 }
 
@@ -55,16 +65,5 @@ pub(crate) fn registry_fault(fault: DeskFault) -> Option<Fault>
     match fault {
         DeskFault::Registry(fault) => Some(fault),
         DeskFault::NoMemory => None,
-    }
-}
-
-/// Returns the fault for one of a query. Memory that runs out for a query is no fault of the
-/// registry, and does not end a server.
-pub(crate) fn failed_by(fault: Fault) -> DeskFault
-    ensures { result ≡ failed_by fault }
-{
-    match fault {
-        Fault::NoMemory => DeskFault::NoMemory,
-        fault => DeskFault::Registry(fault),
     }
 }

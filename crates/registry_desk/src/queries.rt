@@ -12,7 +12,7 @@ ghost use Rattle.registry_http.specs.Resources.{number_response, org_response};
 ghost use Rattle.registry_desk.specs.declared.fault.DeskFault.TheVariants as desk_faults;
 ghost use Rattle.registry_desk.specs.Acting.{IsAsked, IsFoundingResponse, IsHeadResponse, IsHistoryResponse, IsListResponse, IsPetitionResponse, IsQueryResponse, IsReportResponse, first_founding_response, vendor_number_at};
 
-use crate::fault::{DeskFault, failed_by};
+use crate::fault::DeskFault;
 use byte_streams::Outlet;
 use registry_http::{
     Query, Response, founding_response, head_response, number_response, org_response,
@@ -25,7 +25,7 @@ use registry_views::{document_of, record_page, report_of};
 use registry_wire::founding_line;
 use sqlite::Alter;
 use std::alloc::Global;
-use usbids_text::{Document, WriteFault, write};
+use usbids_text::{Document, write};
 use usbnum_core::{Number, Pid, Slug, Vid};
 
 /// Looks up a number of a vendor. The response names `vendor`, if given.
@@ -107,20 +107,16 @@ fn list_response(alloc: Global, document: &Document) -> Result<Response, DeskFau
     ensures err { IfErr result (λ fault. fault ≡ desk_faults.NoMemory) }
 {
     let mut output = Outlet::new(Vec::new(alloc));
-    match write(document, None, &mut output) {
-        Ok(()) => Ok(text_response(output.into_inner())),
-        Err(WriteFault) => Err(DeskFault::NoMemory),
-    }
+    write(document, None, &mut output).map_err(|_| DeskFault::NoMemory)?;
+    Ok(text_response(output.into_inner()))
 }
 
 /// Returns the response with the list of the held numbers.
 fn ask_list<S: Alter>(alloc: Global, registry: &mut Registry<S>) -> Result<Response, DeskFault>
     ensures { IsAsked registry.old registry.new result (λ h response. IsListResponse h response) }
 {
-    match document_of(alloc, registry) {
-        Ok(document) => list_response(alloc, &document),
-        Err(fault) => Err(failed_by(fault)),
-    }
+    let document = document_of(alloc, registry)?;
+    list_response(alloc, &document)
 }
 
 /// Returns the response with a report.
@@ -131,10 +127,8 @@ fn ask_report<S: Alter>(
 ) -> Result<Response, DeskFault>
     ensures { IsAsked registry.old registry.new result (λ h response. IsReportResponse h kind response) }
 {
-    match report_of(alloc, registry, kind) {
-        Ok(text) => Ok(text_response(text.into_bytes())),
-        Err(fault) => Err(failed_by(fault)),
-    }
+    let text = report_of(alloc, registry, kind)?;
+    Ok(text_response(text.into_bytes()))
 }
 
 /// Returns the response with the founding, as it is now, and all vendors.
@@ -154,10 +148,8 @@ fn first_founding_response(alloc: Global, founding: &Founding) -> Result<Respons
     ensures err { IfErr result (λ fault. fault ≡ desk_faults.NoMemory) }
 {
     let mut line = founding_line(alloc, founding)?;
-    match line.push_str("\n") {
-        Ok(()) => Ok(text_response(line.into_bytes())),
-        Err(_) => Err(DeskFault::NoMemory),
-    }
+    line.push_str("\n")?;
+    Ok(text_response(line.into_bytes()))
 }
 
 /// Returns the response with the first line of the record: the founding, with its first licences.
@@ -167,10 +159,8 @@ fn ask_first_founding<S: Alter>(
 ) -> Result<Response, DeskFault>
     ensures { IsAsked registry.old registry.new result (λ h response. response ≡ first_founding_response h.founding) }
 {
-    match registry.first_founding() {
-        Ok(founding) => first_founding_response(alloc, &founding),
-        Err(fault) => Err(failed_by(fault)),
-    }
+    let founding = registry.first_founding()?;
+    first_founding_response(alloc, &founding)
 }
 
 /// Returns the response with the head of the record.
@@ -190,10 +180,7 @@ fn ask_history<S: Alter>(
 ) -> Result<Response, DeskFault>
     ensures { IsAsked registry.old registry.new result (λ h response. IsHistoryResponse h n response) }
 {
-    let text = match record_page(alloc, registry, n) {
-        Ok(text) => text,
-        Err(fault) => return Err(failed_by(fault)),
-    };
+    let text = record_page(alloc, registry, n)?;
     let digest = registry.digest_after(n)?;
     Ok(page_response(text.into_bytes(), digest))
 }

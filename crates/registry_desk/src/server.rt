@@ -6,6 +6,7 @@ ghost use Rattle.registry_rules.specs.History.{History};
 ghost use Rattle.registry_tables.specs.Rows.{newest};
 ghost use Rattle.registry_store.specs.Promise.{Represents, Endures, Leaves, NotesForeign, is_poisoned, state_of};
 ghost use Rattle.registry_desk.specs.Faults.{server_stop_text};
+ghost use Rattle.registry_desk.specs.declared.server.ServerStop.TheVariants.{Connections as NoConnections};
 ghost use Rattle.registry_desk.specs.Server.{Visit, IsVisit, IsToldAt, IsTurnedAwayAt, AreTurnedAway, HaveVisited, EndsVisit, EndsServing, IsLeftAfter, EndsConnections, IfVisited, fault_behind, fault_in_server, status_of};
 ghost use Rattle.registry_desk.specs.Cache.{AreTextsAfterVisit, AreTextsOf, no_texts};
 
@@ -77,6 +78,15 @@ impl fmt::Display for ServerStop {
 
 impl Error for ServerStop {}
 
+/// Says that no more connections can come.
+impl From<Broken> for ServerStop {
+    ghost from_gives = { λ _ stop. stop ≡ NoConnections };
+
+    fn from(_error: Broken) -> ServerStop {
+        ServerStop::Connections
+    }
+}
+
 /// Returns the status of the response, if it was written whole.
 fn status_of(served: Result<Served, Broken>) -> Option<u16>
     ensures { result ≡ status_of served }
@@ -116,17 +126,12 @@ fn serve_beside<C: Connections, S: Alter>(
     ensures none { result ≡ Err ServerStop.Connections → C.fails connections.old connections.new × (registry.new ≡ registry.old) }
     ensures endures { Endures (state_of registry.old) (state_of registry.new) }
 {
-    match connections.open() {
-        Ok(ends) => {
-            let (mut reader, mut writer) = ends;
-            let served = serve_message(alloc, routes, &mut reader, &mut writer, registry, cache);
-            connections.close(reader, writer, status_of(served));
-            match fault_behind(served) {
-                None => Ok(()),
-                Some(fault) => Err(ServerStop::Registry(fault)),
-            }
-        }
-        Err(Broken) => Err(ServerStop::Connections),
+    let (mut reader, mut writer) = connections.open()?;
+    let served = serve_message(alloc, routes, &mut reader, &mut writer, registry, cache);
+    connections.close(reader, writer, status_of(served));
+    match fault_behind(served) {
+        None => Ok(()),
+        Some(fault) => Err(ServerStop::Registry(fault)),
     }
 }
 
