@@ -19,7 +19,7 @@ use crate::printing::print;
 use crate::status::ExitStatus;
 use byte_streams::Sink;
 use registry_rules::{Accepted, Founding, Reply, laws};
-use registry_store::Registry;
+use registry_store::{Fault, Registry};
 use registry_views::lists_of;
 use sqlite::{Alter, Connection, MemStore};
 use std::alloc::Global;
@@ -37,6 +37,29 @@ pub enum CheckStop {
     Row(Difference),
     /// A failure of the registry or of memory.
     Failure(Failure),
+}
+
+impl From<Failure> for CheckStop {
+    ghost use Rattle.std.specs.Prelude.{◌≡◌};
+    ghost use Rattle.registry_commands.specs.declared.checking.CheckStop.TheVariants as stops;
+
+    ghost from_gives = { λ failure stop. stop ≡ stops.Failure failure };
+
+    fn from(failure: Failure) -> CheckStop {
+        CheckStop::Failure(failure)
+    }
+}
+
+impl From<Fault> for CheckStop {
+    ghost use Rattle.std.specs.Prelude.{◌≡◌};
+    ghost use Rattle.registry_commands.specs.declared.checking.CheckStop.TheVariants as stops;
+    ghost use Rattle.registry_commands.specs.Messages.{failure_of};
+
+    ghost from_gives = { λ fault stop. stop ≡ stops.Failure (failure_of fault) };
+
+    fn from(fault: Fault) -> CheckStop {
+        CheckStop::Failure(failure_of(fault))
+    }
 }
 
 /// What is said of a store that is sound.
@@ -79,10 +102,8 @@ fn follow_piece(
     for accepted in piece {
         // A number that no request has would only be printed.
         number = number.saturating_add(1);
-        match follow(replayed, accepted) {
-            Ok(None) => {}
-            Ok(Some(reply)) => return Err(CheckStop::Reply(number, reply)),
-            Err(failure) => return Err(CheckStop::Failure(failure)),
+        if let Some(reply) = follow(replayed, accepted)? {
+            return Err(CheckStop::Reply(number, reply));
         }
     }
     Ok(())
@@ -102,17 +123,11 @@ fn follow_record<S: Alter>(
 {
     let mut passed = 0u64;
     loop {
-        let piece = match registry.accepted_after(passed, PIECE) {
-            Ok(piece) => piece,
-            Err(fault) => return Err(CheckStop::Failure(failure_of(fault))),
-        };
+        let piece = registry.accepted_after(passed, PIECE)?;
         if piece.is_empty() {
             return Ok(passed);
         }
-        match follow_piece(replayed, passed, piece.as_slice()) {
-            Ok(()) => {}
-            Err(stop) => return Err(stop),
-        }
+        follow_piece(replayed, passed, piece.as_slice())?;
         // No store has as many rows as this.
         passed = match passed.checked_add(piece.len() as u64) {
             Some(passed) => passed,
@@ -163,14 +178,9 @@ fn check_over<S: Alter>(
     ensures notes { OnOk result (NotesForeign registry.old registry.new None) }
     ensures over { (now : History) → Represents replayed.old now → StopsOver registry.old registry.new (λ h. AreValid h.deeds × LeadsOn now (accepted_of h.deeds) h) result }
 {
-    let requests = match follow_record(registry, replayed) {
-        Ok(requests) => requests,
-        Err(stop) => return Err(stop),
-    };
-    match compare_rows(alloc, registry, replayed) {
-        Ok(held) => Ok(Counts { requests, held }),
-        Err(stop) => Err(stop),
-    }
+    let requests = follow_record(registry, replayed)?;
+    let held = compare_rows(alloc, registry, replayed)?;
+    Ok(Counts { requests, held })
 }
 
 /// Checks the rows and the record of a registry. Changes nothing.
@@ -183,14 +193,8 @@ fn check_registry<S: Alter>(alloc: Global, registry: &mut Registry<S>) -> Result
 {
     // Only for the proof: the record of a history makes it again.
     laws::is_made_by_its_requests();
-    let founding = match registry.first_founding() {
-        Ok(founding) => founding,
-        Err(fault) => return Err(CheckStop::Failure(failure_of(fault))),
-    };
-    let mut replayed = match found_in_memory(alloc, &founding) {
-        Ok(replayed) => replayed,
-        Err(failure) => return Err(CheckStop::Failure(failure)),
-    };
+    let founding = registry.first_founding()?;
+    let mut replayed = found_in_memory(alloc, &founding)?;
     let found = check_over(alloc, registry, &mut replayed);
     drop(replayed.into_connection().into_store());
     found

@@ -211,10 +211,8 @@ pub(crate) fn other_totals<S: Alter, T: Alter>(
     ensures same { (h : History) → AreValid h.deeds → Represents stored.now h → Represents made.now h → IfOk result (λ other. other ≡ None) }
     ensures kind { is_poisoned stored.now ≡ false → is_poisoned made.now ≡ false → IfErr result (λ fault. fault ≡ Fault.NoMemory) }
 {
-    match has_same_founding(alloc, stored, made) {
-        Ok(true) => {}
-        Ok(false) => return Ok(Some(Difference::Founding)),
-        Err(NoMemory) => return Err(Fault::NoMemory),
+    if !has_same_founding(alloc, stored, made)? {
+        return Ok(Some(Difference::Founding));
     }
     if let Some(vid) = other_reserved(stored, made, vendors)? {
         return Ok(Some(Difference::Reserved(vid)));

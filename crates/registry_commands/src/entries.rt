@@ -79,14 +79,13 @@ pub(crate) fn peek<R: Source>(
         → HasReadTo (ahead (R.remaining source.old) unread.old) (ahead (R.remaining source.new) unread.new) [] unread.new }
     ensures memory { result ≡ Err ReadAllFault.NoMemory → R.failures source.new ≡ R.failures source.old }
 {
-    match find_line(alloc, source, unread) {
-        Ok(Found::End) => Ok((Entry::End, 0)),
-        Ok(Found::TooLong) => Ok((Entry::Bad(LineRefusal::TooLong), 0)),
-        Ok(Found::Line(size)) => match entry_of(alloc, &unread.rest()[..size]) {
-            Ok(entry) => Ok((entry, size)),
-            Err(NoMemory) => Err(ReadAllFault::NoMemory),
-        },
-        Err(fault) => Err(fault),
+    match find_line(alloc, source, unread)? {
+        Found::End => Ok((Entry::End, 0)),
+        Found::TooLong => Ok((Entry::Bad(LineRefusal::TooLong), 0)),
+        Found::Line(size) => {
+            let entry = entry_of(alloc, &unread.rest()[..size])?;
+            Ok((entry, size))
+        }
     }
 }
 
@@ -118,13 +117,9 @@ pub(crate) fn next_entry<R: Source>(
         → HasReadTo (ahead (R.remaining source.old) unread.old) (ahead (R.remaining source.new) unread.new) [] unread.new }
     ensures memory { result ≡ Err ReadAllFault.NoMemory → R.failures source.new ≡ R.failures source.old }
 {
-    match peek(alloc, source, unread) {
-        Ok((entry, size)) => {
-            if is_followed(&entry) {
-                unread.pass(size);
-            }
-            Ok(entry)
-        }
-        Err(fault) => Err(fault),
+    let (entry, size) = peek(alloc, source, unread)?;
+    if is_followed(&entry) {
+        unread.pass(size);
     }
+    Ok(entry)
 }

@@ -12,15 +12,16 @@ ghost use Rattle.registry_commands.specs.RecordLines.{HasPassedLines, ahead};
 ghost use Rattle.registry_commands.specs.Replayed.{Differs, HasAllLines, HasFollowedLines, HasAnother, HasDigest, IsAnsweredAs, IsOfActing, IsReplayOf, foreign_by};
 
 use crate::entries::{Entry, LineRefusal, next_entry};
+use crate::input::ReadAllFault;
 use crate::messages::{Failure, failure_of, input_failure};
 use crate::unread::Unread;
 use byte_streams::Source;
 use registry_rules::{Accepted, Reply};
-use registry_store::Registry;
+use registry_store::{Fault, Registry};
 use registry_tables::Head;
 use sqlite::Alter;
 use std::alloc::Global;
-use usbnum_core::Digest;
+use usbnum_core::{Digest, NoMemory};
 
 /// Why a replay ends before the end of the record.
 #[derive(Debug, Drop)]
@@ -36,6 +37,53 @@ pub enum ReplayStop {
     Digest(u64),
     /// A failure of the record, the registry or memory.
     Failure(Failure),
+}
+
+impl From<Failure> for ReplayStop {
+    ghost use Rattle.std.specs.Prelude.{◌≡◌};
+    ghost use Rattle.registry_commands.specs.declared.following.ReplayStop.TheVariants as stops;
+
+    ghost from_gives = { λ failure stop. stop ≡ stops.Failure failure };
+
+    fn from(failure: Failure) -> ReplayStop {
+        ReplayStop::Failure(failure)
+    }
+}
+
+impl From<Fault> for ReplayStop {
+    ghost use Rattle.std.specs.Prelude.{◌≡◌};
+    ghost use Rattle.registry_commands.specs.declared.following.ReplayStop.TheVariants as stops;
+    ghost use Rattle.registry_commands.specs.Messages.{failure_of};
+
+    ghost from_gives = { λ fault stop. stop ≡ stops.Failure (failure_of fault) };
+
+    fn from(fault: Fault) -> ReplayStop {
+        ReplayStop::Failure(failure_of(fault))
+    }
+}
+
+impl From<ReadAllFault> for ReplayStop {
+    ghost use Rattle.std.specs.Prelude.{◌≡◌};
+    ghost use Rattle.registry_commands.specs.declared.following.ReplayStop.TheVariants as stops;
+    ghost use Rattle.registry_commands.specs.Messages.{input_failure};
+
+    ghost from_gives = { λ fault stop. stop ≡ stops.Failure (input_failure fault) };
+
+    fn from(fault: ReadAllFault) -> ReplayStop {
+        ReplayStop::Failure(input_failure(fault))
+    }
+}
+
+impl From<NoMemory> for ReplayStop {
+    ghost use Rattle.std.specs.Prelude.{◌≡◌};
+    ghost use Rattle.registry_commands.specs.declared.following.ReplayStop.TheVariants as stops;
+    ghost use Rattle.registry_commands.specs.declared.messages.Failure.TheVariants.{Memory};
+
+    ghost from_gives = { λ _ stop. stop ≡ stops.Failure Memory };
+
+    fn from(_error: NoMemory) -> ReplayStop {
+        ReplayStop::Failure(Failure::Memory)
+    }
 }
 
 /// How the request of a line was answered.
@@ -76,15 +124,11 @@ pub(crate) fn follow<S: Alter>(
     ensures notes { MatchResult result (λ other. NotesForeign registry.old registry.new None) (λ failure. NotesForeign registry.old registry.new (foreign_by failure)) }
     ensures endures { Endures (state_of registry.old) (state_of registry.new) }
 {
-    match registry.act(&accepted.request) {
-        Ok(reply) => {
-            if is_as_recorded(&reply, accepted) {
-                Ok(None)
-            } else {
-                Ok(Some(reply))
-            }
-        }
-        Err(fault) => Err(failure_of(fault)),
+    let reply = registry.act(&accepted.request)?;
+    if is_as_recorded(&reply, accepted) {
+        Ok(None)
+    } else {
+        Ok(Some(reply))
     }
 }
 
@@ -146,16 +190,15 @@ fn follow_given<S: Alter>(
     ensures endures { Endures (state_of registry.old) (state_of registry.new) }
 {
     let before = count_of(registry);
-    match follow(registry, accepted) {
-        Ok(None) => {
+    match follow(registry, accepted)? {
+        None => {
             if has_another(registry, before, digest) {
                 Ok(Answered::Elsewhere)
             } else {
                 Ok(Answered::Same)
             }
         }
-        Ok(Some(reply)) => Ok(Answered::Other(reply)),
-        Err(failure) => Err(failure),
+        Some(reply) => Ok(Answered::Other(reply)),
     }
 }
 
@@ -206,26 +249,18 @@ pub fn follow_lines<R: Source, S: Alter>(
         ⊎ HasFollowedLines (ahead (R.remaining source.old) unread.old) (ahead (R.remaining source.new) unread.new) unread.new registry.old registry.new }
 {
     loop {
-        match next_entry(alloc, source, unread) {
-            Ok(Entry::End) => return Ok(()),
-            Ok(Entry::Blank) => {}
-            Ok(Entry::Accepted(accepted, digest)) => {
-                match follow_line(registry, accepted, digest) {
-                    Ok(Answered::Same) => {}
-                    Ok(Answered::Other(reply)) => {
-                        return Err(ReplayStop::Reply(unread.lines(), reply));
-                    }
-                    Ok(Answered::Elsewhere) => return Err(ReplayStop::Digest(unread.lines())),
-                    Err(failure) => return Err(ReplayStop::Failure(failure)),
-                }
-            }
-            Ok(Entry::Founding(_)) => {
+        match next_entry(alloc, source, unread)? {
+            Entry::End => return Ok(()),
+            Entry::Blank => {}
+            Entry::Accepted(accepted, digest) => match follow_line(registry, accepted, digest)? {
+                Answered::Same => {}
+                Answered::Other(reply) => return Err(ReplayStop::Reply(unread.lines(), reply)),
+                Answered::Elsewhere => return Err(ReplayStop::Digest(unread.lines())),
+            },
+            Entry::Founding(_) => {
                 return Err(ReplayStop::Line(unread.lines() + 1, LineRefusal::LateFounding));
             }
-            Ok(Entry::Bad(refusal)) => {
-                return Err(ReplayStop::Line(unread.lines() + 1, refusal));
-            }
-            Err(fault) => return Err(ReplayStop::Failure(input_failure(fault))),
+            Entry::Bad(refusal) => return Err(ReplayStop::Line(unread.lines() + 1, refusal)),
         }
     }
 }

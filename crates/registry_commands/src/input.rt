@@ -7,9 +7,10 @@ ghost use Rattle.registry_commands.specs.Failures.{IsOfInput};
 ghost use Rattle.registry_commands.specs.Messages.{input_failure, read_all_fault_text};
 
 use byte_streams::{Broken, Source};
-use std::alloc::Global;
+use std::alloc::{AllocError, Global};
 use std::error::Error;
 use std::fmt;
+use usbnum_core::NoMemory;
 
 /// The greatest number of bytes that an input may have.
 const MOST: usize = 4_294_967_295;
@@ -37,6 +38,39 @@ impl fmt::Display for ReadAllFault {
 
 impl Error for ReadAllFault {}
 
+impl From<Broken> for ReadAllFault {
+    ghost use Rattle.std.specs.Prelude.{◌≡◌};
+    ghost use Rattle.registry_commands.specs.declared.input.ReadAllFault.TheVariants.{File};
+
+    ghost from_gives = { λ _ fault. fault ≡ File };
+
+    fn from(_error: Broken) -> ReadAllFault {
+        ReadAllFault::File
+    }
+}
+
+impl From<NoMemory> for ReadAllFault {
+    ghost use Rattle.std.specs.Prelude.{◌≡◌};
+    ghost use Rattle.registry_commands.specs.declared.input.ReadAllFault.TheVariants.{NoMemory as OutOfMemory};
+
+    ghost from_gives = { λ _ fault. fault ≡ OutOfMemory };
+
+    fn from(_error: NoMemory) -> ReadAllFault {
+        ReadAllFault::NoMemory
+    }
+}
+
+impl From<AllocError> for ReadAllFault {
+    ghost use Rattle.std.specs.Prelude.{◌≡◌};
+    ghost use Rattle.registry_commands.specs.declared.input.ReadAllFault.TheVariants.{NoMemory as OutOfMemory};
+
+    ghost from_gives = { λ _ fault. fault ≡ OutOfMemory };
+
+    fn from(_error: AllocError) -> ReadAllFault {
+        ReadAllFault::NoMemory
+    }
+}
+
 /// Appends the next bytes of the source, and returns their number, which is 0 only at the end.
 pub(crate) fn take_more<R: Source>(
     source: &mut R,
@@ -50,13 +84,9 @@ pub(crate) fn take_more<R: Source>(
     ensures memory { result ≡ Err ReadAllFault.NoMemory → R.failures source.new ≡ R.failures source.old }
 {
     let mut chunk = [0u8; 8192];
-    match source.take(&mut chunk) {
-        Ok(count) => match bytes.extend_from_slice(&chunk[..count]) {
-            Ok(()) => Ok(count),
-            Err(_) => Err(ReadAllFault::NoMemory),
-        },
-        Err(Broken) => Err(ReadAllFault::File),
-    }
+    let count = source.take(&mut chunk)?;
+    bytes.extend_from_slice(&chunk[..count])?;
+    Ok(count)
 }
 
 /// Reads all bytes of the source, at most 4,294,967,295. Returns `File` only if the source
@@ -69,13 +99,9 @@ pub fn read_all<R: Source>(alloc: Global, source: &mut R) -> Result<Vec<u8>, Rea
 {
     let mut bytes = Vec::new(alloc);
     while bytes.len() <= MOST {
-        match take_more(source, &mut bytes) {
-            Ok(count) => {
-                if count == 0 {
-                    return Ok(bytes);
-                }
-            }
-            Err(fault) => return Err(fault),
+        let count = take_more(source, &mut bytes)?;
+        if count == 0 {
+            return Ok(bytes);
         }
     }
     Err(ReadAllFault::File)

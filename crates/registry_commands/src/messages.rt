@@ -16,7 +16,7 @@ use registry_rules::Reply;
 use registry_store::Fault;
 use registry_wire::{WireRefusal, refusal_json, reply_json};
 use sqlite::{Error, ErrorCode};
-use std::alloc::Global;
+use std::alloc::{AllocError, Global};
 use usbnum_core::NoMemory;
 
 /// Why a command fails.
@@ -87,6 +87,28 @@ impl From<NoMemory> for Failure {
 
     fn from(_error: NoMemory) -> Failure {
         Failure::Memory
+    }
+}
+
+impl From<AllocError> for Failure {
+    ghost use Rattle.std.specs.Prelude.{◌≡◌};
+    ghost use Rattle.registry_commands.specs.declared.messages.Failure.TheVariants.{Memory};
+
+    ghost from_gives = { λ _ failure. failure ≡ Memory };
+
+    fn from(_error: AllocError) -> Failure {
+        Failure::Memory
+    }
+}
+
+impl From<Broken> for Failure {
+    ghost use Rattle.std.specs.Prelude.{◌≡◌};
+    ghost use Rattle.registry_commands.specs.declared.messages.Failure.TheVariants.{File};
+
+    ghost from_gives = { λ _ failure. failure ≡ File };
+
+    fn from(_error: Broken) -> Failure {
+        Failure::File
     }
 }
 
@@ -197,11 +219,7 @@ pub fn put_reply<W: Sink>(alloc: Global, output: &mut W, reply: &Reply) -> Resul
     ensures short { result ≡ Err Failure.Memory → output.new ≡ output.old }
     ensures failure { IfErr result (λ failure. ((failure ≡ Failure.Memory) ⊎ (failure ≡ Failure.File)) × IsOfOutput (W.failures output.old) (W.failures output.new) failure) }
 {
-    let Ok(line) = reply_line(alloc, reply) else {
-        return Err(Failure::Memory);
-    };
-    match put_all(output, line.as_bytes()) {
-        Ok(()) => Ok(()),
-        Err(Broken) => Err(Failure::File),
-    }
+    let line = reply_line(alloc, reply)?;
+    put_all(output, line.as_bytes())?;
+    Ok(())
 }

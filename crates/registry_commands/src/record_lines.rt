@@ -39,10 +39,8 @@ fn fill<R: Source>(
     ensures memory { result ≡ Err ReadAllFault.NoMemory → R.failures source.new ≡ R.failures source.old }
     ensures lines { unread.new.lines ≡ unread.old.lines }
 {
-    match unread.forget(alloc) {
-        Ok(()) => take_more(source, &mut unread.bytes),
-        Err(_) => Err(ReadAllFault::NoMemory),
-    }
+    unread.forget(alloc)?;
+    take_more(source, &mut unread.bytes)
 }
 
 /// Returns what is found if the next line has so many bytes.

@@ -13,9 +13,9 @@ ghost use Rattle.registry_commands.specs.Failures.{IsOfOutput};
 ghost use Rattle.registry_commands.specs.Recorded.{AreNextRequests, IsOfRecord, IsRecordWritten, accepted_lines, record_text};
 ghost use Rattle.registry_commands.specs.Shown.{HoldsOfHistory};
 
-use crate::messages::{Failure, fail, failure_of};
+use crate::messages::{Failure, fail};
 use crate::status::ExitStatus;
-use byte_streams::{Broken, Sink, put_all};
+use byte_streams::{Sink, put_all};
 use registry_rules::Accepted;
 use registry_store::Registry;
 use registry_wire::{accepted_line, founding_line};
@@ -35,16 +35,10 @@ fn put_line<W: Sink>(output: &mut W, text: Result<String, NoMemory>) -> Result<(
     ensures kept { OnOk result (W.failures output.new ≡ W.failures output.old) }
     ensures failure { IfErr result (λ failure. ((failure ≡ Failure.Memory) ⊎ (failure ≡ Failure.File)) × IsOfOutput (W.failures output.old) (W.failures output.new) failure) }
 {
-    let Ok(mut line) = text else {
-        return Err(Failure::Memory);
-    };
-    let Ok(()) = line.push_str("\n") else {
-        return Err(Failure::Memory);
-    };
-    match put_all(output, line.as_bytes()) {
-        Ok(()) => Ok(()),
-        Err(Broken) => Err(Failure::File),
-    }
+    let mut line = text?;
+    line.push_str("\n")?;
+    put_all(output, line.as_bytes())?;
+    Ok(())
 }
 
 /// Writes accepted requests as lines.
@@ -78,14 +72,9 @@ fn put_piece<S: Alter, W: Sink>(
     ensures when_poisoned { is_poisoned registry.old ≡ true → (result ≡ Err Failure.Poisoned) × (registry.new ≡ registry.old) × (output.new ≡ output.old) }
     ensures notes { OnOk result (NotesForeign registry.old registry.new None) }
 {
-    let piece = match registry.accepted_after(passed, PIECE) {
-        Ok(piece) => piece,
-        Err(fault) => return Err(failure_of(fault)),
-    };
-    match put_accepted(alloc, output, piece.as_slice()) {
-        Ok(()) => Ok(piece.len()),
-        Err(failure) => Err(failure),
-    }
+    let piece = registry.accepted_after(passed, PIECE)?;
+    put_accepted(alloc, output, piece.as_slice())?;
+    Ok(piece.len())
 }
 
 /// Writes the accepted requests after the first `after` as lines. Holds a piece of them in memory.
@@ -107,10 +96,7 @@ fn put_requests<S: Alter, W: Sink>(
 {
     let mut passed = after;
     loop {
-        let count = match put_piece(alloc, registry, passed, output) {
-            Ok(count) => count,
-            Err(failure) => return Err(failure),
-        };
+        let count = put_piece(alloc, registry, passed, output)?;
         if count == 0 {
             return Ok(());
         }
@@ -136,13 +122,9 @@ fn put_founding<S: Alter, W: Sink>(
     ensures when_poisoned { is_poisoned registry.old ≡ true → (result ≡ Err Failure.Poisoned) × (registry.new ≡ registry.old) × (output.new ≡ output.old) }
     ensures notes { OnOk result (NotesForeign registry.old registry.new None) }
 {
-    match registry.first_founding() {
-        Ok(founding) => match put_line(output, founding_line(alloc, &founding)) {
-            Ok(()) => Ok(()),
-            Err(failure) => Err(failure),
-        },
-        Err(fault) => Err(failure_of(fault)),
-    }
+    let founding = registry.first_founding()?;
+    put_line(output, founding_line(alloc, &founding))?;
+    Ok(())
 }
 
 /// Writes the whole record, or only the requests after the first `after`.
@@ -164,13 +146,11 @@ fn put_record<S: Alter, W: Sink>(
 {
     match after {
         Some(after) => put_requests(alloc, registry, after, output),
-        None => match put_founding(alloc, registry, output) {
-            Ok(()) => match put_requests(alloc, registry, 0, output) {
-                Ok(()) => Ok(()),
-                Err(failure) => Err(failure),
-            },
-            Err(failure) => Err(failure),
-        },
+        None => {
+            put_founding(alloc, registry, output)?;
+            put_requests(alloc, registry, 0, output)?;
+            Ok(())
+        }
     }
 }
 

@@ -10,7 +10,7 @@ ghost use Rattle.registry_commands.specs.Replayed.{Begins, CommitsIfOlder, HasAl
 
 use crate::entries::{Entry, LineRefusal, peek};
 use crate::following::{ReplayStop, follow_lines};
-use crate::messages::{Failure, fail, failure_of, input_failure};
+use crate::messages::{Failure, fail, failure_of};
 use crate::status::ExitStatus;
 use crate::stops::tell_stop;
 use crate::unread::Unread;
@@ -42,18 +42,16 @@ pub fn take_founding<R: Source>(
         ⊎ HasReadBlank (ahead (R.remaining source.old) unread.old) (ahead (R.remaining source.new) unread.new) unread.new }
 {
     loop {
-        match peek(alloc, source, unread) {
-            Ok((entry, size)) => match entry {
-                Entry::Blank => unread.pass(size),
-                Entry::Founding(founding) => {
-                    unread.pass(size);
-                    return Ok(Some(founding));
-                }
-                Entry::Bad(refusal) => return Err(ReplayStop::Line(unread.lines() + 1, refusal)),
-                Entry::Accepted(_, _) => return Ok(None),
-                Entry::End => return Ok(None),
-            },
-            Err(fault) => return Err(ReplayStop::Failure(input_failure(fault))),
+        let (entry, size) = peek(alloc, source, unread)?;
+        match entry {
+            Entry::Blank => unread.pass(size),
+            Entry::Founding(founding) => {
+                unread.pass(size);
+                return Ok(Some(founding));
+            }
+            Entry::Bad(refusal) => return Err(ReplayStop::Line(unread.lines() + 1, refusal)),
+            Entry::Accepted(_, _) => return Ok(None),
+            Entry::End => return Ok(None),
         }
     }
 }
@@ -71,14 +69,11 @@ fn check_founding<S: Alter>(
 ) -> Result<(), ReplayStop>
     ensures { IsChecked registry.old registry.new number founding.now result }
 {
-    let first = match registry.first_founding() {
-        Ok(first) => first,
-        Err(fault) => return Err(ReplayStop::Failure(failure_of(fault))),
-    };
-    match has_same_line(alloc, &first, founding) {
-        Ok(true) => Ok(()),
-        Ok(false) => Err(ReplayStop::Line(number, LineRefusal::OtherFounding)),
-        Err(NoMemory) => Err(ReplayStop::Failure(Failure::Memory)),
+    let first = registry.first_founding()?;
+    if has_same_line(alloc, &first, founding)? {
+        Ok(())
+    } else {
+        Err(ReplayStop::Line(number, LineRefusal::OtherFounding))
     }
 }
 
@@ -105,10 +100,10 @@ fn follow_record<R: Source, S: Alter>(
 {
     match founding {
         None => follow_lines(alloc, source, unread, registry),
-        Some(founding) => match check_founding(alloc, unread.lines(), founding, registry) {
-            Ok(()) => follow_lines(alloc, source, unread, registry),
-            Err(stop) => Err(stop),
-        },
+        Some(founding) => {
+            check_founding(alloc, unread.lines(), founding, registry)?;
+            follow_lines(alloc, source, unread, registry)
+        }
     }
 }
 
@@ -174,10 +169,7 @@ pub fn found_or_open<S: Alter>(
     match Registry::found(alloc, conn, founding) {
         Ok(registry) => Ok(registry),
         Err((fault, conn)) => match fault {
-            Fault::Taken => match open_there(alloc, conn) {
-                Ok(registry) => Ok(registry),
-                Err(left) => Err(left),
-            },
+            Fault::Taken => open_there(alloc, conn),
             _ => Err((failure_of(fault), conn)),
         },
     }

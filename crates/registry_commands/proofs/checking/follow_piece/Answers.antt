@@ -1,5 +1,6 @@
 use Rattle.std.proofs.Common.{◌≡◌, List, subst, arith, take, refl}
 use Rattle.std.proofs.lemmas.List.{take_all}
+use Rattle.std.proofs.lemmas.Result.{err_from_is_err_and}
 use Rattle.registry_rules.specs.declared.accepted.Accepted.{Accepted}
 use Rattle.registry_commands.proofs.CheckLemmas.{LeadsSoFar, memory_fails, one_more_leads, other_reply}
 use Rattle.registry_commands.proofs.EndLemmas.{memory_is_clean}
@@ -11,20 +12,21 @@ loop-accepted-init c now stands = (now, stands, λ list h is. is)
 pub loop-accepted-preserved : goal.loop-accepted-preserved
 loop-accepted-preserved c now stands =
     let so_far = c.loop-accepted.invariant now stands in
-    let did = rw c.in-Ok-None.field-0-is at (c.in-Ok-None.ensures.replied so_far.0 so_far.1 (memory_is_clean c.follow.new.registry)) in
+    let did = c.in_ok-reply.ensures.replied so_far.0 so_far.1 (memory_is_clean c.follow.new.registry) in
     (_, did.0, one_more_leads now so_far.0 c.args.piece.now c.loop-accepted.accepted-index c.accepted-item.result (omega arith) c.accepted-item.is so_far.2)
 
-pub returns-in-Ok-Some : goal.returns-in-Ok-Some
-returns-in-Ok-Some c now stands =
+pub returns-in-Some : goal.returns-in-Some
+returns-in-Some c now stands =
     let so_far = c.loop-accepted.invariant now stands in
-    let did = rw c.in-Ok-Some.field-0-is at (c.in-Ok-Some.ensures.replied so_far.0 so_far.1 (memory_is_clean c.follow.new.registry)) in
-    other_reply now so_far.0 c.args.piece.now c.loop-accepted.accepted-index c.accepted-item.result c.in-Ok-Some.reply (omega arith) c.accepted-item.is so_far.2 did.1
-    (c.in-Ok-Some.ensures.other c.in-Ok-Some.reply c.in-Ok-Some.field-0-is)
+    let did = rw c.in-Some.is at (c.in_ok-reply.ensures.replied so_far.0 so_far.1 (memory_is_clean c.follow.new.registry)) in
+    other_reply now so_far.0 c.args.piece.now c.loop-accepted.accepted-index c.accepted-item.result c.in-Some.reply (omega arith) c.accepted-item.is so_far.2 did.1
+    (c.in_ok-reply.ensures.other c.in-Some.reply c.in-Some.is)
 
-pub returns-in-Err : goal.returns-in-Err
-returns-in-Err c now stands =
+pub returns-in_err-reply : goal.returns-in_err-reply
+returns-in_err-reply c now stands =
+    let p = err_from_is_err_and c.from_residual.result c.from_residual.ensures.1 in
     let so_far = c.loop-accepted.invariant now stands in
-    memory_fails c.loop-accepted.replayed c.follow.new.registry so_far.0 so_far.1 c.in-Err.failure c.in-Err.ensures.failure
+    rw (p.1, p.2) (memory_fails c.loop-accepted.replayed c.follow.new.registry so_far.0 so_far.1 c.in_err-reply.field-0.0 c.in_err-reply.ensures.failure)
 
 pub returns : goal.returns
 returns c now stands =

@@ -2,8 +2,8 @@ use Rattle.registry_commands.specs.RecordLines.{ahead}
 use Rattle.registry_commands.proofs.EntryLemmas.{peeks_line}
 use Rattle.registry_commands.proofs.entries.peek.Goals as goal
 
-pub returns-in-Ok-clause-found : goal.returns-in-Ok-clause-found
-returns-in-Ok-clause-found g c =
-    let found = rw c.in-Ok-Line.field-0-is at c.in-Ok-Line.ensures.found in
-    peeks_line (ahead (g.R.Source.remaining c.args.source.now) c.args.unread.now) (g.R.Source.remaining c.find_line.new.source) c.find_line.new.unread c.in-Ok-Line.size c.in-Ok.entry
-    found (rw c.rest.ensures at c.in-Ok.ensures)
+pub returns-in_ok-entry-in-Line-clause-found : goal.returns-in_ok-entry-in-Line-clause-found
+returns-in_ok-entry-in-Line-clause-found g c =
+    let found = rw c.in-Line.is at c.in_ok-find_line.ensures.found in
+    peeks_line (ahead (g.R.Source.remaining c.args.source.now) c.args.unread.now) (g.R.Source.remaining c.find_line.new.source) c.find_line.new.unread c.in-Line.size c.in_ok-entry-in-Line.entry
+    found (rw c.rest.ensures at c.in_ok-entry-in-Line.ensures)

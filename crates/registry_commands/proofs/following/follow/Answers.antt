@@ -1,5 +1,8 @@
+use Rattle.std.proofs.lemmas.Result.{err_from_is_err_and}
 use Rattle.registry_commands.proofs.ReplayLemmas.{noted_fault}
 use Rattle.registry_commands.proofs.following.follow.Goals as goal
 
-pub returns-in-Err-clause-notes : goal.returns-in-Err-clause-notes
-returns-in-Err-clause-notes g c = rw c.failure_of.ensures (noted_fault c.args.registry.now c.act.new.self c.in-Err.fault c.in-Err.ensures.notes)
+pub returns-in_err-reply-clause-notes : goal.returns-in_err-reply-clause-notes
+returns-in_err-reply-clause-notes g c =
+    let p = err_from_is_err_and c.from_residual.result c.from_residual.ensures.1 in
+    rw (p.1, p.2) (noted_fault c.args.registry.now c.act.new.self c.in_err-reply.field-0.0 c.in_err-reply.ensures.notes)

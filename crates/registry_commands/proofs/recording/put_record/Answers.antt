@@ -1,5 +1,6 @@
 use Rattle.std.proofs.Common.{◌≡◌, ◌∙◌, ◌++◌, ◌∷◌, [], List, ℕ, ap, subst, sym, refl}
 use Rattle.std.specs.Prelude.{None}
+use Rattle.std.proofs.lemmas.Result.{err_from_is_err_and}
 use Rattle.byte_streams.proofs.StreamLemmas.{appends_prefix_more, appends_prefix_then, appends_then}
 use Rattle.registry_store.proofs.IsQueryLemmas.{notes_then}
 use Rattle.registry_wire.specs.Record.{founding_line}
@@ -13,38 +14,44 @@ returns-in-Some-clause-ok g c = rw c.in-Some.is c.put_requests.ensures.ok
 pub returns-in-Some-clause-err : goal.returns-in-Some-clause-err
 returns-in-Some-clause-err g c = rw c.in-Some.is c.put_requests.ensures.err
 
-pub returns-in-Ok-put_requests-clause-left : goal.returns-in-Ok-put_requests-clause-left
-returns-in-Ok-put_requests-clause-left g c = untouched_then c.args.registry.now c.put_founding.new.registry c.put_requests-in-Ok.new.registry c.in-Ok.ensures.left c.in-Ok-put_requests.ensures.left
+pub returns-in_ok-put_requests-in-None-clause-left : goal.returns-in_ok-put_requests-in-None-clause-left
+returns-in_ok-put_requests-in-None-clause-left g c = untouched_then c.args.registry.now c.put_founding.new.registry c.put_requests-in-None.new.registry c.in_ok-put_founding-in-None.ensures.left c.in_ok-put_requests-in-None.ensures.left
 
-pub returns-in-Ok-put_requests-clause-ok : goal.returns-in-Ok-put_requests-clause-ok
-returns-in-Ok-put_requests-clause-ok g c = rw c.in-None.is (λ h stands clean valid.
-    let early = clean_before c.put_founding.new.registry c.put_requests-in-Ok.new.registry c.in-Ok-put_requests.ensures.left clean in
-    appends_then _ _ _ _ _ (c.in-Ok.ensures.ok h stands early) (c.in-Ok-put_requests.ensures.ok h (c.in-Ok.ensures.left.stays h stands) clean valid))
+pub returns-in_ok-put_requests-in-None-clause-ok : goal.returns-in_ok-put_requests-in-None-clause-ok
+returns-in_ok-put_requests-in-None-clause-ok g c = rw c.in-None.is (λ h stands clean valid.
+    let early = clean_before c.put_founding.new.registry c.put_requests-in-None.new.registry c.in_ok-put_requests-in-None.ensures.left clean in
+    appends_then _ _ _ _ _ (c.in_ok-put_founding-in-None.ensures.ok h stands early) (c.in_ok-put_requests-in-None.ensures.ok h (c.in_ok-put_founding-in-None.ensures.left.stays h stands) clean valid))
 
-pub returns-in-Ok-put_requests-clause-when_poisoned : goal.returns-in-Ok-put_requests-clause-when_poisoned
-returns-in-Ok-put_requests-clause-when_poisoned g c is = let failed = c.in-Ok.ensures.when_poisoned is in absurd (cc failed.0)
+pub returns-in_ok-put_requests-in-None-clause-when_poisoned : goal.returns-in_ok-put_requests-in-None-clause-when_poisoned
+returns-in_ok-put_requests-in-None-clause-when_poisoned g c is = let failed = c.in_ok-put_founding-in-None.ensures.when_poisoned is in absurd (cc failed.0)
 
-pub returns-in-Ok-put_requests-clause-notes : goal.returns-in-Ok-put_requests-clause-notes
-returns-in-Ok-put_requests-clause-notes g c =
-    notes_then c.args.registry.now c.put_founding.new.registry c.put_requests-in-Ok.new.registry None c.in-Ok.ensures.notes c.in-Ok-put_requests.ensures.notes
+pub returns-in_ok-put_requests-in-None-clause-notes : goal.returns-in_ok-put_requests-in-None-clause-notes
+returns-in_ok-put_requests-in-None-clause-notes g c =
+    notes_then c.args.registry.now c.put_founding.new.registry c.put_requests-in-None.new.registry None c.in_ok-put_founding-in-None.ensures.notes c.in_ok-put_requests-in-None.ensures.notes
 
-pub returns-in-Err-put_requests-clause-left : goal.returns-in-Err-put_requests-clause-left
-returns-in-Err-put_requests-clause-left g c = untouched_then c.args.registry.now c.put_founding.new.registry c.put_requests-in-Ok.new.registry c.in-Ok.ensures.left c.in-Err-put_requests.ensures.left
+pub returns-in_err-put_requests-in-None-clause-left : goal.returns-in_err-put_requests-in-None-clause-left
+returns-in_err-put_requests-in-None-clause-left g c = untouched_then c.args.registry.now c.put_founding.new.registry c.put_requests-in-None.new.registry c.in_ok-put_founding-in-None.ensures.left c.in_err-put_requests-in-None.ensures.left
 
-pub returns-in-Err-put_requests-clause-err : goal.returns-in-Err-put_requests-clause-err
-returns-in-Err-put_requests-clause-err g c = rw c.in-None.is (λ h stands clean valid.
-    let early = clean_before c.put_founding.new.registry c.put_requests-in-Ok.new.registry c.in-Err-put_requests.ensures.left clean in
-    appends_prefix_then _ _ _ _ _ (c.in-Ok.ensures.ok h stands early) (c.in-Err-put_requests.ensures.err h (c.in-Ok.ensures.left.stays h stands) clean valid))
+pub returns-in_err-put_requests-in-None-clause-err : goal.returns-in_err-put_requests-in-None-clause-err
+returns-in_err-put_requests-in-None-clause-err g c =
+    let p = err_from_is_err_and c.from_residual-in_err-put_requests-in-None.result c.from_residual-in_err-put_requests-in-None.ensures.1 in
+    rw (p.1, c.in-None.is) (λ h stands clean valid.
+    let early = clean_before c.put_founding.new.registry c.put_requests-in-None.new.registry c.in_err-put_requests-in-None.ensures.left clean in
+    appends_prefix_then _ _ _ _ _ (c.in_ok-put_founding-in-None.ensures.ok h stands early) (c.in_err-put_requests-in-None.ensures.err h (c.in_ok-put_founding-in-None.ensures.left.stays h stands) clean valid))
 
-pub returns-in-Err-put_requests-clause-failure : goal.returns-in-Err-put_requests-clause-failure
-returns-in-Err-put_requests-clause-failure g c =
-    let why = c.in-Err-put_requests.ensures.failure in (
-      of_later_record c.args.registry.now c.put_founding.new.registry c.put_requests-in-Ok.new.registry c.in-Ok.ensures.left c.in-Ok.ensures.notes c.in-Err-put_requests.failure why.0,
-      subst (λ (n : ℕ). IsOfOutput n (g.W.Sink.failures c.put_requests-in-Ok.new.output) c.in-Err-put_requests.failure) c.in-Ok.ensures.kept why.1,
+pub returns-in_err-put_requests-in-None-clause-failure : goal.returns-in_err-put_requests-in-None-clause-failure
+returns-in_err-put_requests-in-None-clause-failure g c =
+    let p = err_from_is_err_and c.from_residual-in_err-put_requests-in-None.result c.from_residual-in_err-put_requests-in-None.ensures.1 in
+    let why = c.in_err-put_requests-in-None.ensures.failure in
+    rw (p.1, p.2) (
+      of_later_record c.args.registry.now c.put_founding.new.registry c.put_requests-in-None.new.registry c.in_ok-put_founding-in-None.ensures.left c.in_ok-put_founding-in-None.ensures.notes c.in_err-put_requests-in-None.field-0.0 why.0,
+      subst (λ (n : ℕ). IsOfOutput n (g.W.Sink.failures c.put_requests-in-None.new.output) c.in_err-put_requests-in-None.field-0.0) c.in_ok-put_founding-in-None.ensures.kept why.1,
     )
 
-pub returns-in-Err-put_requests-clause-when_poisoned : goal.returns-in-Err-put_requests-clause-when_poisoned
-returns-in-Err-put_requests-clause-when_poisoned g c is = let failed = c.in-Ok.ensures.when_poisoned is in absurd (cc failed.0)
+pub returns-in_err-put_requests-in-None-clause-when_poisoned : goal.returns-in_err-put_requests-in-None-clause-when_poisoned
+returns-in_err-put_requests-in-None-clause-when_poisoned g c is = let failed = c.in_ok-put_founding-in-None.ensures.when_poisoned is in absurd (cc failed.0)
 
-pub returns-in-Err-clause-err : goal.returns-in-Err-clause-err
-returns-in-Err-clause-err g c = rw c.in-None.is (λ h stands clean valid. appends_prefix_more _ _ _ _ (c.in-Err.ensures.err h stands clean))
+pub returns-in_err-put_founding-in-None-clause-err : goal.returns-in_err-put_founding-in-None-clause-err
+returns-in_err-put_founding-in-None-clause-err g c =
+    let p = err_from_is_err_and c.from_residual.result c.from_residual.ensures.1 in
+    rw (p.1, c.in-None.is) (λ h stands clean valid. appends_prefix_more _ _ _ _ (c.in_err-put_founding-in-None.ensures.err h stands clean))

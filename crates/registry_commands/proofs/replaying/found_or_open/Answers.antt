@@ -1,8 +1,9 @@
 use Rattle.std.proofs.Common.{◌∙◌, inl, sym, arith, true≢false}
+use Rattle.std.proofs.lemmas.Result.{IfErr-weaker, IfOk-weaker}
 use Rattle.sqlite.specs.Held.{state}
 use Rattle.sqlite.specs.State.{HasCleanDisk}
 use Rattle.registry_store.specs.Promise.{state_of}
-use Rattle.registry_commands.specs.Replayed.{CommitsFirst, CommitsIfEmpty}
+use Rattle.registry_commands.specs.Replayed.{CommitsFirst, CommitsIfEmpty, CommitsIfOlder, IsLeftByOpening, IsOpen}
 use Rattle.registry_commands.proofs.FoundOrOpenLemmas.{foreign_fault, fresh_meta, is_not, left_found, left_there, opened_there, survives_as}
 use Rattle.registry_commands.proofs.replaying.found_or_open.Goals as goal
 
@@ -22,22 +23,26 @@ returns-in-Ok-clause-ok g c =
       clean = was;
     }
 
-pub returns-in-Ok-open_there-clause-ok : goal.returns-in-Ok-open_there-clause-ok
-returns-in-Ok-open_there-clause-ok g c =
+pub returns-in-Taken-clause-ok : goal.returns-in-Taken-clause-ok
+returns-in-Taken-clause-ok g c =
     let taken = c.in-Err.ensures.taken c.in-Taken.is in
-    opened_there g.S.Store c.args.conn c.args.founding.now c.in-Err.conn taken.0 taken.1 c.in-Ok-open_there.registry c.in-Ok-open_there.ensures.ok
+    IfOk-weaker c.open_there.result (IsOpen g.S.Store c.in-Err.conn) _ (λ registry opened. opened_there g.S.Store c.args.conn c.args.founding.now c.in-Err.conn taken.0 taken.1 registry opened) c.open_there.ensures.ok
 
-pub returns-in-Err-open_there-clause-err : goal.returns-in-Err-open_there-clause-err
-returns-in-Err-open_there-clause-err g c =
-    left_there g.S.Store c.args.conn c.args.founding.now c.in-Err.conn (c.in-Err.ensures.taken c.in-Taken.is).0 c.in-Err-open_there.left.0 c.in-Err-open_there.left.1 c.in-Err-open_there.ensures.err
+pub returns-in-Taken-clause-err : goal.returns-in-Taken-clause-err
+returns-in-Taken-clause-err g c =
+    let taken = c.in-Err.ensures.taken c.in-Taken.is in
+    IfErr-weaker c.open_there.result (λ e. IsLeftByOpening g.S.Store (CommitsIfOlder (state g.S.Store c.in-Err.conn)) c.in-Err.conn e.0 e.1) _
+    (λ e left. left_there g.S.Store c.args.conn c.args.founding.now c.in-Err.conn taken.0 e.0 e.1 left) c.open_there.ensures.err
 
 pub returns-in_default-clause-err : goal.returns-in_default-clause-err
 returns-in_default-clause-err g c =
     left_found g.S.Store c.args.conn c.args.founding.now c.in-Err.conn c.in-Err.fault c.failure_of.result c.failure_of.ensures c.in-Err.ensures.kind c.in_default.not-Taken
     g.met.S.Store.settled (c.in-Err.ensures.untaken c.in_default.not-Taken) c.in-Err.ensures.idle c.in-Err.ensures.busy c.in-Err.ensures.survives
 
-pub returns-in-Err-open_there-clause-named : goal.returns-in-Err-open_there-clause-named
-returns-in-Err-open_there-clause-named g c told = (c.in-Err.ensures.taken c.in-Taken.is).1
+pub returns-in-Taken-clause-named : goal.returns-in-Taken-clause-named
+returns-in-Taken-clause-named g c =
+    IfErr-weaker c.open_there.result (λ e. IsLeftByOpening g.S.Store (CommitsIfOlder (state g.S.Store c.in-Err.conn)) c.in-Err.conn e.0 e.1) _
+    (λ e left told. (c.in-Err.ensures.taken c.in-Taken.is).1) c.open_there.ensures.err
 
 pub returns-in_default-clause-named : goal.returns-in_default-clause-named
 returns-in_default-clause-named g c told = absurd (c.in-Err.ensures.kind.1 (foreign_fault c.in-Err.fault (sym c.failure_of.ensures ∙ told)))
