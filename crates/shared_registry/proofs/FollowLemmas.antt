@@ -128,6 +128,10 @@ module _ {L : Type 0} (l : LogGhosts L) (lines : L → LogLines) where
       ] in
       record { last = last; next = it.next; leads = leads; goes_on = both.0; last_of = of; next_of = both.1; leaves = it.leaves }
 
+  -- a call that got no answer
+  pub failed_here : (c now : L) (fault : LogFault) → l.fails c now → HasFailed l lines c now fault
+  failed_here c now fault fails = record { old = c; grown = grows_none (lines c); failed = inl fails }
+
   -- a call that failed later
   pub failed_since : (start c : L) (now : L) (fault : LogFault) → Grows (lines start) (lines c) → HasFailed l lines c now fault → HasFailed l lines start now fault
   failed_since start c now fault grown it = record { old = it.old; grown = grows_on (lines start) (lines c) (lines it.old) grown it.grown; failed = it.failed }
@@ -206,6 +210,12 @@ module _ {S : Type 0} {g : Ghosts S} {L : Type 0} (l : LogGhosts L) (lines : L �
   pub still_follows : (old : Registry S g) (c : Cursor L) (new : Registry S g) (c_new : Cursor L) (h : History) → Follows l lines old c h → Represents new h → Grows (lines c.log) (lines c_new.log) → c_new.next ≡ c.next → Follows l lines new c_new h
   still_follows old c new c_new h follows stays grown same =
       record { represents = stays; of_machine = still_of (lines c.log) (lines c_new.log) h follows.of_machine grown; next = same ∙ follows.next }
+
+  -- a page that got no answer
+  pub page_failed : KeepsLines l lines → (it : Registry S g) (c c_new : Cursor L) (h : History) → Follows l lines it c h → (fault : LogFault) → l.fails c.log c_new.log → c_new.next ≡ c.next
+      → FollowsLater l lines it c_new h × HasFailed l lines c.log c_new.log fault
+  page_failed kept it c c_new h follows fault fails same =
+      ((h, leads_nowhere h, still_follows it c it c_new h follows follows.represents (kept.fails c.log c_new.log fails) same), failed_here l lines c.log c_new.log fault fails)
 
   -- an answer without a line, which said that there were more
   pub empty_page : KeepsLines l lines → (it : Registry S g) (c c_new : Cursor L) (h : History) → Follows l lines it c h → (page : PageAnswer) → l.reads c.log c_new.log c.next page → c_new.next ≡ c.next → page.lines ≡ [] → page.more ≡ true

@@ -2,6 +2,7 @@ use Rattle.std.proofs.Common.{None}
 use Rattle.std.proofs.lemmas.Result.{err_from_is_err_and}
 use Rattle.registry_store.specs.Promise.{state_of}
 use Rattle.registry_store.proofs.IsQueryLemmas.{notes_then}
+use Rattle.shared_registry.specs.Lines.{fault_of_stop}
 use Rattle.shared_registry.proofs.ActLemmas.{answered_later, gone_further}
 use Rattle.shared_registry.proofs.FollowLemmas.{left_later}
 use Rattle.shared_registry.proofs.LineLemmas.{clean_first, endures_then}
@@ -48,3 +49,8 @@ returns-in_err-reply-clause-asks g c lines kept h follows clean =
     let so_far = c.loop-reply.invariant.so_far lines kept h follows first in
     asked_later g.L.Log lines kept h so_far.now c.args.request.now c.args.cursor.now.log c.loop-reply.cursor.log c.act_and_look.new.cursor.log so_far.leads (c.loop-reply.invariant.asks lines kept h follows first)
     (c.in_err-reply.ensures.asks lines kept so_far.now so_far.follows clean)
+
+pub returns-in_err-reply-clause-notes : goal.returns-in_err-reply-clause-notes
+returns-in_err-reply-clause-notes g c =
+    let p = err_from_is_err_and c.from_residual.result c.from_residual.ensures.1 in
+    rw (p.1, p.2) (notes_then c.args.registry.now c.loop-reply.registry c.act_and_look.new.registry (fault_of_stop c.in_err-reply.field-0.0) c.loop-reply.invariant.notes c.in_err-reply.ensures.notes)

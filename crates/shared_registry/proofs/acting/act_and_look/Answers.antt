@@ -2,6 +2,8 @@ use Rattle.std.proofs.Common.{arith}
 use Rattle.std.proofs.lemmas.Result.{err_from_is_err_and}
 use Rattle.registry_rules.specs.Run.{after_one}
 use Rattle.registry_store.specs.Promise.{state_of}
+use Rattle.registry_store.proofs.IsQueryLemmas.{notes_then}
+use Rattle.shared_registry.specs.Lines.{fault_of_stop}
 use Rattle.shared_registry.proofs.ActLemmas.{answered_then, followed_gone, tried_gone, turned_now}
 use Rattle.shared_registry.proofs.AskLemmas.{asked_and_read}
 use Rattle.shared_registry.proofs.FollowLemmas.{followed_again, left_later, shows_line}
@@ -11,6 +13,16 @@ use Rattle.shared_registry.proofs.acting.act_and_look.Goals as goal
 pub returns-then-cursor-before-clause-ok : goal.returns-then-cursor-before-clause-ok
 returns-then-cursor-before-clause-ok g c lines kept h follows clean =
     turned_now g.L.Log lines c.args.cursor.now c.try_to_act.new.registry c.try_to_act.new.cursor h c.args.request.now c.in_ok-tried.tried (c.in_ok-tried.ensures.ok lines kept h follows clean) c.in_ok-tried.ensures.same_place c.if-cursor-before.true
+
+pub returns-in_err-tried-clause-err : goal.returns-in_err-tried-clause-err
+returns-in_err-tried-clause-err g c lines kept h follows clean =
+    let p = err_from_is_err_and c.from_residual.result c.from_residual.ensures.1 in
+    rw (p.1, p.2) (c.in_err-tried.ensures.err lines kept h follows clean)
+
+pub returns-in_err-tried-clause-notes : goal.returns-in_err-tried-clause-notes
+returns-in_err-tried-clause-notes g c =
+    let p = err_from_is_err_and c.from_residual.result c.from_residual.ensures.1 in
+    rw (p.1, p.2) c.in_err-tried.ensures.notes
 
 pub returns-in_err-follow-clause-err : goal.returns-in_err-follow-clause-err
 returns-in_err-follow-clause-err g c lines kept h follows clean =
@@ -61,3 +73,8 @@ pub returns-in-None-clause-asks : goal.returns-in-None-clause-asks
 returns-in-None-clause-asks g c lines kept h follows clean =
     let middle = clean_first (state_of c.try_to_act.new.registry) (state_of c.follow.new.registry) c.in_ok-follow.ensures.endures clean in
     asked_and_read g.L.Log lines kept h c.args.request.now c.args.cursor.now.log c.try_to_act.new.cursor.log c.follow.new.cursor.log (c.in_ok-tried.ensures.asks lines kept h follows middle) c.in_ok-follow.ensures.asks
+
+pub returns-in_err-follow-clause-notes : goal.returns-in_err-follow-clause-notes
+returns-in_err-follow-clause-notes g c =
+    let p = err_from_is_err_and c.from_residual-in_err-follow.result c.from_residual-in_err-follow.ensures.1 in
+    rw (p.1, p.2) (notes_then c.args.registry.now c.try_to_act.new.registry c.follow.new.registry (fault_of_stop c.in_err-follow.field-0.0) c.in_ok-tried.ensures.notes c.in_err-follow.ensures.notes)

@@ -5,6 +5,7 @@ use Rattle.registry_store.proofs.IsQueryLemmas.{notes_then}
 use Rattle.shared_registry.proofs.FollowLemmas.{all_followed, gone_on, left_later}
 use Rattle.shared_registry.proofs.LineLemmas.{clean_first, endures_then}
 use Rattle.shared_registry.specs.Asks.{AppendsNothing}
+use Rattle.shared_registry.specs.Lines.{fault_of_stop}
 use Rattle.shared_registry.proofs.AskLemmas.{asked_then}
 use Rattle.shared_registry.proofs.following.follow.Goals as goal
 
@@ -37,3 +38,8 @@ returns-in_err-read_and_follow-clause-asks g c = asked_then g.L.Log AppendsNothi
 
 pub returns-clause-asks : goal.returns-clause-asks
 returns-clause-asks g c = asked_then g.L.Log AppendsNothing c.args.cursor.now.log c.loop.cursor.log c.read_and_follow.new.cursor.log c.loop.invariant.asks c.in_ok-read_and_follow.ensures.asks
+
+pub returns-in_err-read_and_follow-clause-notes : goal.returns-in_err-read_and_follow-clause-notes
+returns-in_err-read_and_follow-clause-notes g c =
+    let p = err_from_is_err_and c.from_residual.result c.from_residual.ensures.1 in
+    rw (p.1, p.2) (notes_then c.args.registry.now c.loop.registry c.read_and_follow.new.registry (fault_of_stop c.in_err-read_and_follow.field-0.0) c.loop.invariant.notes c.in_err-read_and_follow.ensures.notes)

@@ -1,6 +1,6 @@
 use Rattle.std.proofs.Common.{◌∙◌, sym, arith, refl}
 use Rattle.std.proofs.lemmas.Result.{err_from_is_err_and}
-use Rattle.shared_registry.proofs.FollowLemmas.{empty_page, is_read, no_lines, page_followed, page_stopped, some_lines}
+use Rattle.shared_registry.proofs.FollowLemmas.{empty_page, is_read, no_lines, page_failed, page_followed, page_stopped, some_lines}
 use Rattle.shared_registry.specs.Asks.{AppendsNothing}
 use Rattle.shared_registry.proofs.AskLemmas.{asked_in_vain, asked_read}
 use Rattle.shared_registry.proofs.following.read_and_follow.Goals as goal
@@ -51,3 +51,18 @@ returns-in_err-act_on_lines-clause-asks g c = asked_read g.L.Log AppendsNothing 
 
 pub returns-in_err-page-clause-asks : goal.returns-in_err-page-clause-asks
 returns-in_err-page-clause-asks g c = asked_in_vain g.L.Log AppendsNothing c.args.cursor.now.log c.page.new.self c.in_err-page.ensures.failed
+
+pub returns-in_err-page-clause-err : goal.returns-in_err-page-clause-err
+returns-in_err-page-clause-err g c lines kept h follows clean =
+    let p = err_from_is_err_and c.from_residual.result c.from_residual.ensures.1 in
+    rw (p.1, p.2) (page_failed g.L.Log lines kept c.args.registry.now c.args.cursor.now (record c.args.cursor.now { log = c.page.new.self }) h follows c.in_err-page.field-0.0 c.in_err-page.ensures.failed refl)
+
+pub returns-in_err-page-clause-notes : goal.returns-in_err-page-clause-notes
+returns-in_err-page-clause-notes g c =
+    let p = err_from_is_err_and c.from_residual.result c.from_residual.ensures.1 in
+    rw (p.1, p.2) refl
+
+pub returns-in_err-act_on_lines-clause-notes : goal.returns-in_err-act_on_lines-clause-notes
+returns-in_err-act_on_lines-clause-notes g c =
+    let p = err_from_is_err_and c.from_residual-in_err-act_on_lines.result c.from_residual-in_err-act_on_lines.ensures.1 in
+    rw (p.1, p.2) c.in_err-act_on_lines.ensures.notes

@@ -18,6 +18,12 @@ loop-preserved g c = record {
   notes = notes_then c.args.registry.now c.loop.registry c.compare_part.new.registry None c.loop.invariant.notes c.in_ok-compare_part.ensures.notes;
 }
 
+pub returns-clause-ok : goal.returns-clause-ok
+returns-clause-ok g c lines kept h stands valid passed clean =
+    let so_far = c.loop.invariant.so_far lines kept h stands valid passed (clean_before c.loop.registry c.compare_part.new.registry c.in_ok-compare_part.ensures.untouched clean) in
+    let more = c.in_ok-compare_part.ensures.ok lines kept h (c.loop.invariant.untouched.stays h stands) valid so_far.0 clean in
+    (more.0, more.2 c.if-branch.false)
+
 pub returns-in_err-compare_part-clause-err : goal.returns-in_err-compare_part-clause-err
 returns-in_err-compare_part-clause-err g c lines kept h stands valid passed clean =
     let p = err_from_is_err_and c.from_residual.result c.from_residual.ensures.1 in

@@ -1,6 +1,6 @@
-use Rattle.std.proofs.Common.{◌∙◌, inl, sym}
+use Rattle.std.proofs.Common.{◌∙◌, sym}
 use Rattle.std.proofs.lemmas.Result.{err_from_is_err_and}
-use Rattle.shared_registry.proofs.FollowLemmas.{at_instant_grows, grows_none, not_none}
+use Rattle.shared_registry.proofs.FollowLemmas.{at_instant_grows, failed_here, not_none}
 use Rattle.shared_registry.proofs.JoinLemmas.{page_other, page_passed}
 use Rattle.shared_registry.specs.Asks.{AppendsNothing}
 use Rattle.shared_registry.proofs.AskLemmas.{asked_in_vain, asked_read}
@@ -38,5 +38,4 @@ returns-in_err-page-clause-asks g c = asked_in_vain g.L.Log AppendsNothing c.arg
 pub returns-in_err-page-clause-err : goal.returns-in_err-page-clause-err
 returns-in_err-page-clause-err g c lines kept h stands valid passed clean =
     let p = err_from_is_err_and c.from_residual-in_err-page.result c.from_residual-in_err-page.ensures.1 in
-    let start = c.args.cursor.now.log in
-    rw (p.1, p.2) (record { old = start; grown = grows_none (lines start); failed = inl c.in_err-page.ensures.failed })
+    rw (p.1, p.2) (failed_here g.L.Log lines c.args.cursor.now.log c.page.new.self c.in_err-page.field-0.0 c.in_err-page.ensures.failed)
