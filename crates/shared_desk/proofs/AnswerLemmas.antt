@@ -1,6 +1,6 @@
 -- A query or an order over a log: the texts that stay cached, and what is left.
-use Rattle.std.proofs.Common.{◌≡◌, ◌∙◌, ℕ, [], ◌∷◌, length, Bool, true, false, None, inl, inr, refl, ap, arith}
-use Rattle.std.specs.Prelude.{Ok, Err, nat_eq, if◌then◌else◌}
+use Rattle.std.proofs.Common.{◌≡◌, ◌∙◌, ℕ, [], ◌∷◌, length, Bool, true, false, None, inl, inr, refl, sym, ap, subst, arith}
+use Rattle.std.specs.Prelude.{Result, Ok, Err, IfErr, IfOk, IsErrAnd, MatchResult, nat_eq, if◌then◌else◌}
 use Rattle.std.proofs.lemmas.Bool.{eqb-true}
 use Rattle.sqlite.specs.Store.{Ghosts}
 use Rattle.registry_rules.specs.History.{History}
@@ -19,13 +19,17 @@ use Rattle.registry_http.specs.declared.route.Query.{Query}
 use Rattle.registry_http.specs.Responses.{refusal_response, reply_response}
 use Rattle.registry_desk.specs.declared.cache.Cache.{Cache}
 use Rattle.registry_desk.specs.declared.fault.DeskFault.{DeskFault}
+use Rattle.registry_desk.specs.declared.fault.DeskFault.TheVariants as desk
 use Rattle.registry_desk.specs.Acting.{IsOfQuery, IsQueryResponse}
 use Rattle.registry_desk.specs.Cache.{AreTextsOf, no_texts, with_text}
+use Rattle.registry_desk.specs.Faults.{fault_of_done}
 use Rattle.registry_desk.proofs.CacheLemmas.{none_are}
 use Rattle.shared_log.specs.Calls.{LogLines}
 use Rattle.shared_log.specs.declared.log.Log.{Ghosts as LogGhosts}
 use Rattle.shared_registry.specs.Follows.{Follows, HasFollowed, IsAnsweredOverLog, IsLeft}
+use Rattle.shared_registry.specs.Lines.{fault_in_call}
 use Rattle.shared_registry.specs.declared.cursor.Cursor.{Cursor}
+use Rattle.shared_registry.specs.declared.stop.ShareStop.{ShareStop}
 use Rattle.shared_registry.specs.declared.stop.ShareStop.TheVariants as stops
 use Rattle.shared_registry.proofs.ActLemmas.{longer_by, unmoved}
 use Rattle.shared_registry.proofs.FollowLemmas.{grows_none, still_follows}
@@ -52,6 +56,28 @@ texts_before : (h x : History) (r : Request) (cache new : Cache) (now before : �
 texts_before h x r cache new now before is at_h at_next leads of =
     let one = longer_by x (verdict x r) in
     texts_by h x cache new now before (nat_eq now before) refl is (λ same. unmoved h x leads (omega (arith, same, at_h, at_next, one))) of
+
+-- ---- the fault of a query
+
+-- what is told of a query is its response, or the stop for its fault
+abbrev IsPassedOn : Result Response DeskFault → Result Response ShareStop → Type 0
+IsPassedOn asked told = MatchResult asked (λ response. told ≡ Ok response) (λ fault. IsErrAnd told (λ stop. stop ≡ stop_of fault))
+
+pub if_response : (asked : Result Response DeskFault) (told : Result Response ShareStop) (P Q : Response → Type 0) → IsPassedOn asked told → IfOk asked P → ((response : Response) → P response → Q response) → IfOk told Q
+if_response (Ok response) told P Q is holds give = rw is (give response holds)
+if_response (Err fault) (Ok response) P Q is holds give = absurd is
+if_response (Err fault) (Err stop) P Q is holds give = tt
+
+pub if_fault : (asked : Result Response DeskFault) (told : Result Response ShareStop) (P : DeskFault → Type 0) (Q : ShareStop → Type 0) → IsPassedOn asked told → IfErr asked P → ((fault : DeskFault) → P fault → Q (stop_of fault)) → IfErr told Q
+if_fault (Ok response) told P Q is holds give = rw is tt
+if_fault (Err fault) (Ok response) P Q is holds give = tt
+if_fault (Err fault) (Err stop) P Q is holds give = subst Q (sym is) (give fault holds)
+
+pub same_fault_told : (asked : Result Response DeskFault) (told : Result Response ShareStop) → IsPassedOn asked told → fault_of_done asked ≡ fault_in_call told
+same_fault_told (Ok response) told is = rw is refl
+same_fault_told (Err fault) (Ok response) is = absurd is
+same_fault_told (Err (desk.Registry fault)) (Err stop) is = rw is refl
+same_fault_told (Err desk.NoMemory) (Err stop) is = rw is refl
 
 module _ {S : Type 0} {g : Ghosts S} {L : Type 0} (l : LogGhosts L) (lines : L → LogLines) (c : Cursor L) (h : History) where
   -- ---- queries

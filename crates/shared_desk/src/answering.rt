@@ -54,13 +54,9 @@ fn follow_first<S: Alter, L: Log>(
     ensures asks { IsLogAsked L.Log AppendsNothing cursor.old.log cursor.new.log }
 {
     let before = cursor.next();
-    match follow(registry, cursor) {
-        Ok(()) => {
-            drop_if_moved(cache, cursor, before);
-            Ok(())
-        }
-        Err(stop) => Err(stop),
-    }
+    follow(registry, cursor)?;
+    drop_if_moved(cache, cursor, before);
+    Ok(())
 }
 
 /// Follows the log, and returns the response to a query.
@@ -80,13 +76,8 @@ fn answer_after_following<S: Alter, L: Log>(
     ensures endures { Endures (state_of registry.old) (state_of registry.new) }
     ensures asks { IsLogAsked L.Log AppendsNothing cursor.old.log cursor.new.log }
 {
-    if let Err(stop) = follow_first(registry, cursor, cache) {
-        return Err(stop);
-    }
-    match answer_query(alloc, registry, cache, query) {
-        Ok(response) => Ok(response),
-        Err(fault) => Err(stop_of(fault)),
-    }
+    follow_first(registry, cursor, cache)?;
+    answer_query(alloc, registry, cache, query).map_err(stop_of)
 }
 
 /// Acts on an order over the log, and returns the response. Drops the cached texts if the registry has
@@ -109,16 +100,9 @@ fn act_on_order<S: Alter, L: Log>(
         → IsLogAsked L.Log (AppendsRequest (lines cursor.new.log) h request.now) cursor.old.log cursor.new.log }
 {
     let before = cursor.next();
-    match act(registry, cursor, request) {
-        Ok(reply) => {
-            drop_if_moved(cache, cursor, before);
-            match reply_response(alloc, &reply) {
-                Ok(response) => Ok(response),
-                Err(_) => Err(ShareStop::NoMemory),
-            }
-        }
-        Err(stop) => Err(stop),
-    }
+    let reply = act(registry, cursor, request)?;
+    drop_if_moved(cache, cursor, before);
+    Ok(reply_response(alloc, &reply)?)
 }
 
 /// Returns the response to a query, or acts on an order.
@@ -150,10 +134,7 @@ fn refuse(alloc: Global, refusal: HttpRefusal) -> Result<Response, ShareStop>
     ensures ok { IfOk result (λ response. response ≡ refusal_response refusal) }
     ensures err { IfErr result (λ stop. stop ≡ stops.NoMemory) }
 {
-    match refusal_response(alloc, refusal) {
-        Ok(response) => Ok(response),
-        Err(_) => Err(ShareStop::NoMemory),
-    }
+    Ok(refusal_response(alloc, refusal)?)
 }
 
 /// Acts on what a message says, over the whole log, and returns the response. A cached response is taken

@@ -15,16 +15,14 @@ pub(crate) fn unavailable_for(stop: ShareStop) -> Unavailable
 {
     match stop {
         ShareStop::Registry(fault) => unavailable_of(DeskFault::Registry(fault)),
-        ShareStop::Log(LogFault::NoMemory) => Unavailable::NoMemory,
-        ShareStop::Log(LogFault::NoQuorum) => Unavailable::StoreFault,
-        ShareStop::Log(LogFault::Unreachable) => Unavailable::StoreFault,
-        ShareStop::Log(LogFault::Refused) => Unavailable::StoreFault,
-        ShareStop::Log(LogFault::BadAnswer) => Unavailable::StoreFault,
-        ShareStop::OtherRecord(_) => Unavailable::StoreFault,
-        ShareStop::Ahead => Unavailable::StoreFault,
-        ShareStop::Empty => Unavailable::StoreFault,
-        ShareStop::Full => Unavailable::StoreFault,
-        ShareStop::NoMemory => Unavailable::NoMemory,
+        ShareStop::Log(LogFault::NoMemory) | ShareStop::NoMemory => Unavailable::NoMemory,
+        ShareStop::Log(
+            LogFault::NoQuorum | LogFault::Unreachable | LogFault::Refused | LogFault::BadAnswer,
+        )
+        | ShareStop::OtherRecord(_)
+        | ShareStop::Ahead
+        | ShareStop::Empty
+        | ShareStop::Full => Unavailable::StoreFault,
     }
 }
 
@@ -33,13 +31,12 @@ pub(crate) fn may_pass(stop: ShareStop) -> bool
     ensures { result ≡ may_pass stop }
 {
     match stop {
-        ShareStop::Log(_) => true,
-        ShareStop::NoMemory => true,
-        ShareStop::Registry(_) => false,
-        ShareStop::OtherRecord(_) => false,
-        ShareStop::Ahead => false,
-        ShareStop::Empty => false,
-        ShareStop::Full => false,
+        ShareStop::Log(_) | ShareStop::NoMemory => true,
+        ShareStop::Registry(_)
+        | ShareStop::OtherRecord(_)
+        | ShareStop::Ahead
+        | ShareStop::Empty
+        | ShareStop::Full => false,
     }
 }
 
@@ -59,12 +56,14 @@ pub(crate) fn fault_behind(stop: Option<ShareStop>) -> Option<Fault>
 {
     match stop {
         Some(ShareStop::Registry(fault)) => Some(fault),
-        Some(ShareStop::Log(_)) => None,
-        Some(ShareStop::OtherRecord(_)) => None,
-        Some(ShareStop::Ahead) => None,
-        Some(ShareStop::Empty) => None,
-        Some(ShareStop::Full) => None,
-        Some(ShareStop::NoMemory) => None,
-        None => None,
+        Some(
+            ShareStop::Log(_)
+            | ShareStop::OtherRecord(_)
+            | ShareStop::Ahead
+            | ShareStop::Empty
+            | ShareStop::Full
+            | ShareStop::NoMemory,
+        )
+        | None => None,
     }
 }

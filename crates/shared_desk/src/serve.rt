@@ -82,11 +82,7 @@ fn remember(
 )
     ensures { cache.new ≡ cache_after cache.old (done_for_cache done) said }
 {
-    let done = match done {
-        Ok(response) => Ok(response),
-        Err(_) => Err(DeskFault::NoMemory),
-    };
-    cache.keep(said, done);
+    cache.keep(said, done.map_err(|_| DeskFault::NoMemory));
 }
 
 /// Reads one message from the source, acts on it over the whole log, and writes its response to the sink.

@@ -10,6 +10,7 @@ ghost use Rattle.shared_log.specs.Calls.{KeepsLines, LogLines};
 ghost use Rattle.shared_registry.specs.Asks.{IsLogAsked};
 ghost use Rattle.shared_registry.specs.Follows.{Follows};
 ghost use Rattle.shared_desk.specs.Asks.{AppendsOrderIn, AppendsOrdersIn};
+ghost use Rattle.shared_desk.specs.declared.server.SharedStop.TheVariants.{Connections as NoConnections};
 ghost use Rattle.shared_desk.specs.Refusals.{fault_behind_stop};
 ghost use Rattle.shared_desk.specs.Server.{EndsBeside, EndsConnectionsOverLog, EndsOver, IfVisitedOverLog, IsToldOverLogAt, IsToldLast, IsTurnedAwayOverLogAt, ends_by, served_in, stop_to_end, stop_in_server};
 
@@ -32,6 +33,15 @@ pub enum SharedStop {
     /// The registry did not go on with its log at the last connection, for this reason. It is none of
     /// `ShareStop::Log` and `ShareStop::NoMemory`.
     Share(ShareStop),
+}
+
+/// Says that no more connections can come.
+impl From<Broken> for SharedStop {
+    ghost from_gives = { λ _ stop. stop ≡ NoConnections };
+
+    fn from(_error: Broken) -> SharedStop {
+        SharedStop::Connections
+    }
 }
 
 /// Returns the status of the response, if it was written whole.
@@ -86,25 +96,20 @@ fn serve_beside<C: Connections, S: Alter, L: Log>(
     ensures none { result ≡ Err SharedStop.Connections → C.fails connections.old connections.new × (registry.new ≡ registry.old) × (cursor.new ≡ cursor.old) }
     ensures endures { Endures (state_of registry.old) (state_of registry.new) }
 {
-    match connections.open() {
-        Ok(ends) => {
-            let (mut reader, mut writer) = ends;
-            let turn = serve_message(
-                alloc,
-                routes,
-                &mut reader,
-                &mut writer,
-                registry,
-                cursor,
-                cache,
-            );
-            connections.close(reader, writer, status_of(&turn));
-            match stop_to_end(&turn) {
-                None => Ok(()),
-                Some(stop) => Err(SharedStop::Share(stop)),
-            }
-        }
-        Err(Broken) => Err(SharedStop::Connections),
+    let (mut reader, mut writer) = connections.open()?;
+    let turn = serve_message(
+        alloc,
+        routes,
+        &mut reader,
+        &mut writer,
+        registry,
+        cursor,
+        cache,
+    );
+    connections.close(reader, writer, status_of(&turn));
+    match stop_to_end(&turn) {
+        None => Ok(()),
+        Some(stop) => Err(SharedStop::Share(stop)),
     }
 }
 
@@ -150,17 +155,14 @@ pub fn serve_shared<C: Connections, S: Alter, L: Log>(
     let mut routes = Routes::new();
     let mut cache = Cache::new();
     for _ in 0..count {
-        match serve_beside(
+        serve_beside(
             alloc,
             &mut routes,
             connections,
             registry,
             cursor,
             &mut cache,
-        ) {
-            Ok(()) => {}
-            Err(stop) => return Err(stop),
-        }
+        )?;
     }
     Ok(())
 }

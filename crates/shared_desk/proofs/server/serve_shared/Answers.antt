@@ -23,7 +23,7 @@ loop-init g c = record {
 pub loop-preserved : goal.loop-preserved
 loop-preserved g c =
     let so_far = c.loop.invariant.served in
-    let came = c.in-Ok.ensures.visited in
+    let came = c.in_ok-serve_beside.ensures.visited in
     record {
       endures = search rules;
       served = (
@@ -43,17 +43,24 @@ loop-preserved g c =
             let before = so_far.3 lines kept h follows early in
             asked_more g.L.Log lines kept c.args.cursor.now h so_far.0 c.loop.cursor before.0 before.1 came.0 c.serve_beside.new.cursor (so_far.5 lines kept h follows early) (came.5 lines kept before.0 before.2 clean),
       );
-      notes = notes_then c.args.registry.now c.loop.registry c.serve_beside.new.registry None c.loop.invariant.notes c.in-Ok.ensures.notes;
+      notes = notes_then c.args.registry.now c.loop.registry c.serve_beside.new.registry None c.loop.invariant.notes c.in_ok-serve_beside.ensures.notes;
     }
 
-pub returns-in-Err-clause-served : goal.returns-in-Err-clause-served
-returns-in-Err-clause-served g c =
+pub returns-in_err-serve_beside-clause-served : goal.returns-in_err-serve_beside-clause-served
+returns-in_err-serve_beside-clause-served g c =
     let so_far = c.loop.invariant.served in
-    ended_by g.L.Log g.C.Connections.opens g.C.Connections.closes g.C.Reader.Source.remaining g.C.Reader.Source.failures g.C.Writer.Sink.contents g.C.Writer.Sink.failures g.C.Connections.fails
+    let stop = c.in_err-serve_beside.field-0.0 in
+    let is : c.from_residual.result ≡ Err stop = search rules in
+    rw is (ended_by g.L.Log g.C.Connections.opens g.C.Connections.closes g.C.Reader.Source.remaining g.C.Reader.Source.failures g.C.Writer.Sink.contents g.C.Writer.Sink.failures g.C.Connections.fails
     c.args.connections.now c.loop.connections c.serve_beside.new.connections c.args.registry.now c.loop.registry c.serve_beside.new.registry c.args.cursor.now c.loop.cursor c.serve_beside.new.cursor c.loop.cache c.serve_beside.new.cache c.args.count so_far.0
-    c.in-Err.stop so_far.1 (omega (arith, so_far.2, c.loop-test.true))
+    stop so_far.1 (omega (arith, so_far.2, c.loop-test.true))
     (λ clean. omega (arith, c.serve_beside.ensures.endures.clean, clean))
-    so_far.3 so_far.4 so_far.5 c.in-Err.ensures.visited (λ same. c.in-Err.ensures.none (ap Err same))
+    so_far.3 so_far.4 so_far.5 c.in_err-serve_beside.ensures.visited (λ same. c.in_err-serve_beside.ensures.none (ap Err same)))
+
+pub returns-in_err-serve_beside-clause-notes : goal.returns-in_err-serve_beside-clause-notes
+returns-in_err-serve_beside-clause-notes g c =
+    let is : c.from_residual.result ≡ Err c.in_err-serve_beside.field-0.0 = search rules in
+    rw is (notes_then c.args.registry.now c.loop.registry c.serve_beside.new.registry _ c.loop.invariant.notes c.in_err-serve_beside.ensures.notes)
 
 pub returns-clause-served : goal.returns-clause-served
 returns-clause-served g c =
