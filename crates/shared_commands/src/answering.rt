@@ -30,6 +30,22 @@ pub enum AnswerStop {
     Output(Failure),
 }
 
+impl From<ShareStop> for AnswerStop {
+    ghost from_gives = { λ cause stop. stop ≡ stops.Share cause };
+
+    fn from(cause: ShareStop) -> AnswerStop {
+        AnswerStop::Share(cause)
+    }
+}
+
+impl From<Failure> for AnswerStop {
+    ghost from_gives = { λ cause stop. stop ≡ stops.Output cause };
+
+    fn from(cause: Failure) -> AnswerStop {
+        AnswerStop::Output(cause)
+    }
+}
+
 /// Acts on one request, and writes its reply as a line. Returns the exit status for it.
 pub(crate) fn answer<S: Alter, L: Log, W: Sink>(
     alloc: Global,
@@ -51,13 +67,9 @@ pub(crate) fn answer<S: Alter, L: Log, W: Sink>(
     ensures notes { NotesForeign registry.old registry.new (fault_behind_answer result) }
     ensures endures { Endures (state_of registry.old) (state_of registry.new) }
 {
-    match act(registry, cursor, request) {
-        Ok(reply) => match put_reply(alloc, output, &reply) {
-            Ok(()) => Ok(exit_status_of(&reply)),
-            Err(failure) => Err(AnswerStop::Output(failure)),
-        },
-        Err(stop) => Err(AnswerStop::Share(stop)),
-    }
+    let reply = act(registry, cursor, request)?;
+    put_reply(alloc, output, &reply)?;
+    Ok(exit_status_of(&reply))
 }
 
 /// Acts on requests one after another, and writes the reply to each as a line before it acts on the
@@ -80,10 +92,7 @@ pub(crate) fn answer_all<S: Alter, L: Log, W: Sink>(
     ensures endures { Endures (state_of registry.old) (state_of registry.new) }
 {
     for request in requests {
-        match answer(alloc, registry, cursor, request, output) {
-            Ok(_status) => {}
-            Err(stop) => return Err(stop),
-        }
+        answer(alloc, registry, cursor, request, output)?;
     }
     Ok(())
 }

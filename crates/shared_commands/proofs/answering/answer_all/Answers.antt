@@ -1,4 +1,5 @@
-use Rattle.std.proofs.Common.{◌≡◌, ◌∙◌, ℕ, None, refl, ap, subst, take, arith, List}
+use Rattle.std.proofs.Common.{◌≡◌, ◌∙◌, ℕ, None, refl, ap, subst, take, arith, rules, List}
+use Rattle.std.specs.Prelude.{Err}
 use Rattle.std.proofs.lemmas.List.{take_all}
 use Rattle.registry_rules.specs.declared.order.Request.{Request}
 use Rattle.registry_store.specs.declared.fault.Fault.TheVariants as faults
@@ -25,14 +26,14 @@ loop-request-init g c = record {
 pub loop-request-preserved : goal.loop-request-preserved
 loop-request-preserved g c = record {
   so_far = λ lines kept h follows clean.
-      let so_far = c.loop-request.invariant.so_far lines kept h follows (clean_first (state_of c.loop-request.registry) (state_of c.answer.new.registry) c.in-Ok.ensures.endures clean) in
+      let so_far = c.loop-request.invariant.so_far lines kept h follows (clean_first (state_of c.loop-request.registry) (state_of c.answer.new.registry) c.in_ok-answer.ensures.endures clean) in
       one_answered g.L.Log lines c.args.cursor.now h c.args.requests.now c.loop-request.request-index c.request-item.result c.loop-request-test.true c.request-item.is c.loop-request.registry c.loop-request.cursor
-      (sunk g.W.Sink c.args.output.now) (sunk g.W.Sink c.loop-request.output) (sunk g.W.Sink c.answer.new.output) so_far c.answer.new.registry c.answer.new.cursor (c.in-Ok.ensures.asks lines kept so_far.next so_far.follows clean) c.in-Ok._status
-      (c.in-Ok.ensures.ok lines kept so_far.next so_far.follows clean);
-  when_poisoned = λ e. let before = c.loop-request.invariant.when_poisoned e in absurd (let failed = c.in-Ok.ensures.when_poisoned (ap is_poisoned before.0 ∙ e) in cc failed.0);
-  kept = c.in-Ok.ensures.kept ∙ c.loop-request.invariant.kept;
-  notes = notes_then c.args.registry.now c.loop-request.registry c.answer.new.registry None c.loop-request.invariant.notes c.in-Ok.ensures.notes;
-  endures = endures_then (state_of c.args.registry.now) (state_of c.loop-request.registry) (state_of c.answer.new.registry) c.loop-request.invariant.endures c.in-Ok.ensures.endures;
+      (sunk g.W.Sink c.args.output.now) (sunk g.W.Sink c.loop-request.output) (sunk g.W.Sink c.answer.new.output) so_far c.answer.new.registry c.answer.new.cursor (c.in_ok-answer.ensures.asks lines kept so_far.next so_far.follows clean) c.in_ok-answer.field-0
+      (c.in_ok-answer.ensures.ok lines kept so_far.next so_far.follows clean);
+  when_poisoned = λ e. let before = c.loop-request.invariant.when_poisoned e in absurd (let failed = c.in_ok-answer.ensures.when_poisoned (ap is_poisoned before.0 ∙ e) in cc failed.0);
+  kept = c.in_ok-answer.ensures.kept ∙ c.loop-request.invariant.kept;
+  notes = notes_then c.args.registry.now c.loop-request.registry c.answer.new.registry None c.loop-request.invariant.notes c.in_ok-answer.ensures.notes;
+  endures = endures_then (state_of c.args.registry.now) (state_of c.loop-request.registry) (state_of c.answer.new.registry) c.loop-request.invariant.endures c.in_ok-answer.ensures.endures;
 }
 
 pub returns-clause-ok : goal.returns-clause-ok
@@ -42,26 +43,31 @@ returns-clause-ok g c lines kept h follows clean =
     subst (λ (rs : List Request). HasAnsweredAll g.L.Log lines c.loop-request.registry c.loop-request.cursor c.args.cursor.now h rs (output_of g.W.Sink c.args.output.now c.loop-request.output)) all
     (c.loop-request.invariant.so_far lines kept h follows clean)
 
-pub returns-in-Err-clause-err : goal.returns-in-Err-clause-err
-returns-in-Err-clause-err g c lines kept h follows clean =
-    let so_far = c.loop-request.invariant.so_far lines kept h follows (clean_first (state_of c.loop-request.registry) (state_of c.answer.new.registry) c.in-Err.ensures.endures clean) in
-    some_answered g.L.Log lines c.args.cursor.now h c.args.requests.now c.loop-request.request-index c.request-item.result c.loop-request-test.true c.request-item.is c.loop-request.registry c.loop-request.cursor
-    (sunk g.W.Sink c.args.output.now) (sunk g.W.Sink c.loop-request.output) (sunk g.W.Sink c.answer.new.output) so_far c.answer.new.registry c.answer.new.cursor (c.in-Err.ensures.asks lines kept so_far.next so_far.follows clean) c.in-Err.stop
-    (c.in-Err.ensures.err lines kept so_far.next so_far.follows clean)
+pub returns-in_err-answer-clause-err : goal.returns-in_err-answer-clause-err
+returns-in_err-answer-clause-err g c lines kept h follows clean =
+    let is : c.from_residual.result ≡ Err c.in_err-answer.field-0.0 = search rules in
+    let so_far = c.loop-request.invariant.so_far lines kept h follows (clean_first (state_of c.loop-request.registry) (state_of c.answer.new.registry) c.in_err-answer.ensures.endures clean) in
+    rw is (some_answered g.L.Log lines c.args.cursor.now h c.args.requests.now c.loop-request.request-index c.request-item.result c.loop-request-test.true c.request-item.is c.loop-request.registry c.loop-request.cursor
+    (sunk g.W.Sink c.args.output.now) (sunk g.W.Sink c.loop-request.output) (sunk g.W.Sink c.answer.new.output) so_far c.answer.new.registry c.answer.new.cursor (c.in_err-answer.ensures.asks lines kept so_far.next so_far.follows clean) c.in_err-answer.field-0.0
+    (c.in_err-answer.ensures.err lines kept so_far.next so_far.follows clean))
 
-pub returns-in-Err-clause-writes : goal.returns-in-Err-clause-writes
-returns-in-Err-clause-writes g c = subst (λ (n : ℕ). TellsWrites n (g.W.Sink.failures c.answer.new.output) c.in-Err.stop) c.loop-request.invariant.kept c.in-Err.ensures.writes
+pub returns-in_err-answer-clause-writes : goal.returns-in_err-answer-clause-writes
+returns-in_err-answer-clause-writes g c =
+    let is : c.from_residual.result ≡ Err c.in_err-answer.field-0.0 = search rules in
+    rw is (subst (λ (n : ℕ). TellsWrites n (g.W.Sink.failures c.answer.new.output) c.in_err-answer.field-0.0) c.loop-request.invariant.kept c.in_err-answer.ensures.writes)
 
-pub returns-in-Err-clause-notes : goal.returns-in-Err-clause-notes
-returns-in-Err-clause-notes g c = notes_then c.args.registry.now c.loop-request.registry c.answer.new.registry _ c.loop-request.invariant.notes c.in-Err.ensures.notes
+pub returns-in_err-answer-clause-notes : goal.returns-in_err-answer-clause-notes
+returns-in_err-answer-clause-notes g c =
+    let is : c.from_residual.result ≡ Err c.in_err-answer.field-0.0 = search rules in
+    rw is (notes_then c.args.registry.now c.loop-request.registry c.answer.new.registry _ c.loop-request.invariant.notes c.in_err-answer.ensures.notes)
 
-pub returns-in-Err-clause-endures : goal.returns-in-Err-clause-endures
-returns-in-Err-clause-endures g c = endures_then (state_of c.args.registry.now) (state_of c.loop-request.registry) (state_of c.answer.new.registry) c.loop-request.invariant.endures c.in-Err.ensures.endures
+pub returns-in_err-answer-clause-endures : goal.returns-in_err-answer-clause-endures
+returns-in_err-answer-clause-endures g c = endures_then (state_of c.args.registry.now) (state_of c.loop-request.registry) (state_of c.answer.new.registry) c.loop-request.invariant.endures c.in_err-answer.ensures.endures
 
-pub returns-in-Err-clause-when_poisoned : goal.returns-in-Err-clause-when_poisoned
-returns-in-Err-clause-when_poisoned g c = λ e.
+pub returns-in_err-answer-clause-when_poisoned : goal.returns-in_err-answer-clause-when_poisoned
+returns-in_err-answer-clause-when_poisoned g c = λ e.
     let before = c.loop-request.invariant.when_poisoned e in
-    let failed = c.in-Err.ensures.when_poisoned (ap is_poisoned before.0 ∙ e) in
-    let stop : c.in-Err.stop ≡ stops.Share (shares.Registry faults.Poisoned) = cc failed.0 in
-    let silent = rw stop at c.in-Err.ensures.silent in
+    let failed = c.in_err-answer.ensures.when_poisoned (ap is_poisoned before.0 ∙ e) in
+    let stop : c.in_err-answer.field-0.0 ≡ stops.Share (shares.Registry faults.Poisoned) = cc failed.0 in
+    let silent = rw stop at c.in_err-answer.ensures.silent in
     (failed.1 ∙ before.0, failed.2 ∙ before.1, ap (λ (out : Sunk). out.contents) silent ∙ before.2)
