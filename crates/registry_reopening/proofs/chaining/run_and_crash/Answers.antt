@@ -32,6 +32,8 @@ returns-in_err-registry-clause-holds g c =
     let run = c.run_from-run.result in
     let n = length run.replies.items in
     rw (p.1, p.2) (λ h stands.
-    let legal = stands.legal_with.legal in
-    (n, c.in_err-registry.ensures.holds (after h (take n rs)) (after h (take (n + 1) rs)) (legal_after h (take n rs) legal) (legal_after h (take (n + 1) rs) legal)
-    (λ was. run_leaves last h rs run.replies.items run.fault (c.run_from-run.ensures.run h (inl stands) was) was)))
+    let legal = stands.legal_with.legal in (
+      n,
+      c.in_err-registry.ensures.holds (after h (take n rs)) (after h (take (n + 1) rs)) (legal_after h (take n rs) legal) (legal_after h (take (n + 1) rs) legal)
+          (λ was. run_leaves last h rs run.replies.items run.fault (c.run_from-run.ensures.run h (inl stands) was) was),
+    ))
