@@ -2,9 +2,11 @@
 """Makes docs/index.md: each definition in `specs/`, with the first sentence of its comment if it has one.
 
 Usage: scripts/index_definitions.py [--write]. Without the option it writes nothing, and the exit status is 0 if the page is
-what it would write. A definition is `abbrev pub NAME`, `unfoldable pub NAME`, `pub record NAME`, `pub data NAME` or, at the
-start of a line, `pub NAME`. Its comment stands right above it, and that of a file is its first lines."""
+what it would write, and if no two files define one name. A definition is `abbrev pub NAME`, `unfoldable pub NAME`,
+`pub record NAME`, `pub data NAME` or, at the start of a line, `pub NAME`. Its comment stands right above it, and that of a
+file is its first lines."""
 
+import collections
 import glob
 import re
 import sys
@@ -65,12 +67,21 @@ def page():
     return "".join(parts)
 
 
+def doubled(text):
+    """Returns the names that more than one file defines, by what the page says, without operators."""
+    files = [set(re.findall(r"^- `([\w-]+)`", it, re.MULTILINE)) for it in text.split("\n## ")]
+    return sorted(name for name, count in collections.Counter(it for names in files for it in names).items() if count > 1)
+
+
 def main():
+    text = page()
     if sys.argv[1:] == ["--write"]:
-        write(PAGE, page())
+        write(PAGE, text)
         return
-    if content(PAGE).decode() != page():
+    if content(PAGE).decode() != text:
         sys.exit("docs/index.md is not that of the comments in specs/; scripts/index_definitions.py --write makes it")
+    if doubled(text):
+        sys.exit(f"more than one file in specs/ defines {', '.join(doubled(text))}")
 
 
 if __name__ == "__main__":
